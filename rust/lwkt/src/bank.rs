@@ -1,7 +1,9 @@
+use crate::waits::Whole;
 use crate::{Guarded, SeatFault};
 use std::error::Error;
 use std::ffi::c_void;
 use std::fmt;
+use std::sync::Arc;
 
 /// A bank, as `lwkt_bank` of include/lwkt.h.
 #[repr(C)]
@@ -183,6 +185,16 @@ impl fmt::Display for Missed {
 
 impl Error for Missed {}
 
+// Asks again where another seat's step came between.
+fn unraced<T>(ask: impl Fn() -> Result<T, SeatFault>) -> Result<T, SeatFault> {
+    loop {
+        match ask() {
+            Err(SeatFault::Race) => std::hint::spin_loop(),
+            answer => return answer,
+        }
+    }
+}
+
 fn done(status: u32) -> Result<(), SeatFault> {
     if status == 0 {
         Ok(())
@@ -252,12 +264,14 @@ impl Bank {
             place: std::ptr::null_mut(),
         };
         done(unsafe { lwkt_bank_open(tokens.as_ptr(), tokens.len(), seats, &mut handle) })?;
-        let whole = Whole {
-            tokens: tokens.len(),
-            seats: seats as usize,
+        let whole = Arc::new(Whole::new(tokens.len(), seats as usize));
+        let seat = |number| Seat {
+            handle,
+            number,
+            whole: Arc::clone(&whole),
         };
         Ok(Bank {
-            seats: (0..seats).map(|number| Seat { handle, number, whole }).collect(),
+            seats: (0..seats).map(seat).collect(),
         })
     }
 
@@ -270,7 +284,7 @@ impl Bank {
     ///
     /// Refused with 16 where there is no such token.
     pub fn guard<T>(&self, token: u32, value: T) -> Result<Guarded<T>, SeatFault> {
-        let Seat { handle, whole, .. } = self.seats[0];
+        let Seat { handle, whole, .. } = &self.seats[0];
         if token as usize >= whole.tokens {
             return Err(SeatFault::NoToken);
         }
@@ -337,8 +351,8 @@ impl Bank {
 
     // Closes the bank and frees it: then it has no seats.
     fn end(&mut self) -> Result<Vec<StoredClosing>, SeatFault> {
-        let Seat { mut handle, whole, .. } = self.seats[0];
-        let mut closings = vec![UNTOLD; whole.tokens];
+        let mut handle = self.seats[0].handle;
+        let mut closings = vec![UNTOLD; self.seats[0].whole.tokens];
         done(unsafe { lwkt_bank_close(handle, closings.as_mut_ptr(), closings.len()) })?;
         self.seats.clear();
         // No seat is left that has the handle.
@@ -358,18 +372,11 @@ impl Drop for Bank {
     }
 }
 
-// How many tokens and seats a bank has.
-#[derive(Clone, Copy)]
-struct Whole {
-    tokens: usize,
-    seats: usize,
-}
-
 /// A seat at a bank. It may go to another thread, and is used by one at a time.
 pub struct Seat {
     handle: Handle,
     number: u32,
-    whole: Whole,
+    whole: Arc<Whole>,
 }
 
 // SAFETY: a seat's calls are those of the library, which any thread may make. No `Sync`: threads that share a seat hold its tokens together.
@@ -404,15 +411,14 @@ impl Seat {
         Ok(Held { seat: self, token })
     }
 
-    /// Takes a token exclusively, yielding while another seat has it.
+    /// Takes a token exclusively, and sleeps while another seat has it. Who comes first gets it, also before those that wait.
     pub fn take_waiting(&self, token: u32) -> Result<Held<'_>, SeatFault> {
-        loop {
-            match done(unsafe { lwkt_take(self.handle, self.number, token) }) {
-                Ok(()) => return Ok(Held { seat: self, token }),
-                Err(fault) if fault.is_busy() => std::thread::yield_now(),
-                Err(fault) => return Err(fault),
-            }
-        }
+        self.whole.wait(token, false, || unraced(|| self.take(token)))
+    }
+
+    /// Takes a token shared, and sleeps while another seat has it exclusively, or its mark holds the request off.
+    pub fn share_waiting(&self, token: u32) -> Result<Held<'_>, SeatFault> {
+        self.whole.wait(token, true, || unraced(|| self.share(token)))
     }
 
     /// Takes a token shared, without waiting.
@@ -440,10 +446,37 @@ impl Seat {
     /// # Ok::<(), Missed>(())
     /// ```
     pub fn resume(&mut self, list: &[Reference]) -> Result<Resumed<'_>, Missed> {
+        self.hold(list)?;
+        Ok(Resumed { seat: self })
+    }
+
+    /// The same, and sleeps while a token is missed. Nothing is held meanwhile, so lists don't wait for each other for ever.
+    pub fn resume_waiting(&mut self, list: &[Reference]) -> Result<Resumed<'_>, Missed> {
+        let mut held = self.hold(list);
+        while let Err(Missed { place, fault }) = held {
+            if !fault.is_busy() {
+                return Err(Missed { place, fault });
+            }
+            let token = list[place].token;
+            // It goes on when the list is held, or another token is missed.
+            let waited = self.whole.wait(token, true, || match self.hold(list) {
+                Err(missed) if missed.fault.is_busy() && list[missed.place].token == token => Err(SeatFault::Busy),
+                answer => Ok(answer),
+            });
+            held = waited.unwrap_or(held);
+        }
+        Ok(Resumed { seat: self })
+    }
+
+    // Takes a list, which then is held.
+    fn hold(&self, list: &[Reference]) -> Result<(), Missed> {
         let mut place = 0;
         let status = unsafe { lwkt_resume(self.handle, self.number, list.as_ptr(), list.len(), &mut place) };
-        done(status).map_err(|fault| Missed { place, fault })?;
-        Ok(Resumed { seat: self })
+        if matches!(status, 20 | 23 | 34) {
+            // Those in front of the one that was missed were held for a while.
+            list[..place].iter().for_each(|reference| self.whole.wake(reference.token));
+        }
+        done(status).map_err(|fault| Missed { place, fault })
     }
 
     /// Gives up all that the seat holds, as references that were forgotten; answers the first token whose row and record broke the law,
@@ -451,6 +484,7 @@ impl Seat {
     pub fn block(&mut self) -> Option<u32> {
         let mut restored = 0;
         let status = unsafe { lwkt_block(self.handle, self.number, &mut restored) };
+        self.whole.wake_all();
         (status == 19).then_some(restored)
     }
 
@@ -584,11 +618,13 @@ impl<'a> Held<'a> {
     }
 
     fn give_or_restore(&self) -> Result<(), SeatFault> {
-        let given = done(unsafe { lwkt_give(self.seat.handle, self.seat.number, self.token) });
+        let give = || done(unsafe { lwkt_give(self.seat.handle, self.seat.number, self.token) });
+        let given = give();
         if given == Err(SeatFault::Broken) {
             self.restore()?;
-            done(unsafe { lwkt_give(self.seat.handle, self.seat.number, self.token) })?;
+            give()?;
         }
+        self.seat.whole.wake(self.token);
         given
     }
 }

@@ -186,9 +186,14 @@ impl Seat {
         locked(value, self.take(token_of(self.place(), value)?)?)
     }
 
-    /// The same, yielding while another seat has the token.
+    /// The same, sleeping while another seat has the token.
     pub fn lock_waiting<'a, T>(&'a self, value: &'a Guarded<T>) -> Result<Guard<'a, T>, SeatFault> {
         locked(value, self.take_waiting(token_of(self.place(), value)?)?)
+    }
+
+    /// Takes a value's token shared, sleeping while another seat has it exclusively, and answers a guard that reads the value.
+    pub fn read_waiting<'a, T>(&'a self, value: &'a Guarded<T>) -> Result<ReadGuard<'a, T>, SeatFault> {
+        read(value, self.share_waiting(token_of(self.place(), value)?)?)
     }
 
     /// Takes a value's token shared, without waiting, and answers a guard that reads the value.

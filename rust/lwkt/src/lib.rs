@@ -30,6 +30,8 @@ mod guard;
 mod record;
 #[cfg(any(test, not(feature = "std")))]
 mod steps;
+#[cfg(feature = "std")]
+mod waits;
 mod word;
 
 #[cfg(feature = "std")]

@@ -1,6 +1,8 @@
 //! Banks of tokens: sections of four threads, and what each call refuses.
 use lwkt::{Bank, Closing, Held, Missed, Reference, RowLaw, Seat, SeatFault, Token};
+use std::sync::mpsc;
 use std::thread;
+use std::time::Duration;
 
 const ROUNDS: u64 = 100_000;
 const TALLY: u32 = 0;
@@ -499,4 +501,99 @@ fn errors_go_anywhere() {
         Ok(Bank::open(&tokens(), 1)?.close()?)
     }
     assert_eq!(closed().unwrap().len(), TOKENS as usize);
+}
+
+// Whether a thread that waits for a token is woken by what the call does once the thread waits.
+fn wakes(gives: fn(&mut Seat, &mut dyn FnMut())) {
+    let mut seats = seats();
+    let (ended, ends) = mpsc::channel();
+    let mut waiting = Some((seats.pop().unwrap(), ended));
+    gives(&mut seats[0], &mut || {
+        let (seat, ended) = waiting.take().unwrap();
+        thread::spawn(move || {
+            drop(seat.take_waiting(ANY).unwrap());
+            ended.send(()).unwrap();
+        });
+        thread::sleep(Duration::from_millis(30));
+    });
+    ends.recv_timeout(Duration::from_secs(60)).expect("a thread sleeps for ever");
+}
+
+#[test]
+fn who_gives_back_wakes_who_waits() {
+    wakes(|seat, wait| {
+        let _held = seat.take(ANY).unwrap();
+        wait();
+    });
+    wakes(|seat, wait| {
+        let held = seat.share(ANY).unwrap();
+        wait();
+        held.give().unwrap();
+    });
+    wakes(|seat, wait| {
+        let held = seat.take(ORDER).unwrap();
+        let inner = held.take(ANY).unwrap();
+        wait();
+        std::mem::forget(inner);
+        drop(held);
+        assert_eq!(seat.block(), None);
+    });
+    wakes(|seat, wait| {
+        let _list = seat.resume(&[Reference::shared(ANY), Reference::exclusive(ORDER)]).unwrap();
+        wait();
+    });
+}
+
+// Sections of more kinds than one, in which a thread sleeps until another one has given back what it waits for.
+fn wait_in_turns(seat: &mut Seat, number: u64, shared: &lwkt::Guarded<(u64, u64)>) {
+    for round in 0..ROUNDS / 20 {
+        match (round + number) % 4 {
+            0 => {
+                let mut both = seat.lock_waiting(shared).unwrap();
+                both.0 += 1;
+                if round % 500 == 0 {
+                    thread::sleep(Duration::from_micros(50));
+                }
+                both.1 += 1;
+            }
+            1 => {
+                let both = seat.read_waiting(shared).unwrap();
+                assert_eq!(both.0, both.1);
+            }
+            2 => {
+                let list = [Reference::exclusive(ANY), Reference::exclusive(TALLY)];
+                let list = if number % 2 == 0 { list } else { [list[1], list[0]] };
+                let held = seat.resume_waiting(&list).unwrap();
+                held.add(TALLY, 1).unwrap();
+                held.lock(shared).unwrap().0 += 0;
+            }
+            _ => drop(seat.share_waiting(TALLY).unwrap().load(0).unwrap()),
+        }
+    }
+}
+
+#[test]
+fn threads_that_wait_are_woken() {
+    let mut bank = Bank::open(&tokens(), 8).unwrap();
+    let shared = bank.guard(ANY, (0, 0)).unwrap();
+    thread::scope(|scope| {
+        for (seat, number) in bank.seats().iter_mut().zip(0..) {
+            let shared = &shared;
+            scope.spawn(move || wait_in_turns(seat, number, shared));
+        }
+    });
+    assert_eq!(shared.into_inner(), (2 * ROUNDS / 20, 2 * ROUNDS / 20));
+    assert_eq!(bank.close().unwrap()[TALLY as usize].cells, [5 + 2 * ROUNDS / 20]);
+}
+
+#[test]
+fn what_can_not_be_waited_for_is_refused() {
+    let mut seats = seats();
+    assert_eq!(refused(seats[0].share_waiting(TOKENS)), 16);
+    let list = [Reference::shared(ANY), Reference::exclusive(ANY)];
+    assert_eq!(seats[0].resume_waiting(&list).err(), missed(1, 11));
+    let held = seats[0].share_waiting(ANY).unwrap();
+    assert_eq!(refused(seats[0].take_waiting(ANY)), 11);
+    drop(held);
+    assert_eq!(seats[0].resume_waiting(&[]).unwrap().block(), None);
 }
