@@ -47,9 +47,21 @@
 // The version of the header and of the library that it came with. Its first number is that of liblwkt.so.
 #define LWKT_VERSION "1.0.0"
 
+// Stands behind a call whose status a program has to look at: where it doesn't, the compiler warns. Of the others, on a bank, a
+// status other than 0 comes of a mistake alone.
+#ifdef __GNUC__
+#define LWKT_MUST_USE __attribute__((warn_unused_result))
+#else
+#define LWKT_MUST_USE
+#endif
+
 #ifdef __cplusplus
 extern "C" {
 #endif
+
+// The version of the library that is there, as LWKT_VERSION is that of the header: a shared library may be a later one. The text is there
+// for good, and ended by a 0 byte.
+const char *lwkt_version(void);
 
 // What came of a call, beside its status.
 typedef struct lwkt_answer {
@@ -187,7 +199,7 @@ uint32_t lwkt_word_give_written(uint64_t word, uint64_t *next);
 //     uint64_t value;
 //     lwkt_load(bank, 1, 0, 0, &value);
 //     lwkt_store(bank, 1, 0, 0, value + 1);
-//     lwkt_give(bank, 1, 0);
+//     status = lwkt_give(bank, 1, 0);
 //     // when all threads have ended:
 //     lwkt_closing closing;
 //     status = lwkt_bank_close(bank, &closing, 1);
@@ -307,7 +319,7 @@ typedef struct lwkt_bank {
 // Opens a bank of these tokens, numbered from 0, with so many seats, and stores it. With another status than 0 `bank` stays as it was.
 // Refused with 39 where a limit is passed: 1 to 8 seats, at most 64 tokens, what stands at `lwkt_token`; with 40 where the opening
 // row of a token, with the length of its record, breaks its law; with 32.
-uint32_t lwkt_bank_open(const lwkt_token *tokens, size_t count, uint32_t seats, lwkt_bank *bank);
+uint32_t lwkt_bank_open(const lwkt_token *tokens, size_t count, uint32_t seats, lwkt_bank *bank) LWKT_MUST_USE;
 
 // Closes a bank, and stores what each of its tokens came to in the place of its number: `closings` has so many places, at least one for
 // each token, and those behind the last token stay as they were. From then on each call on the bank answers 52. No seat may hold a
@@ -317,7 +329,7 @@ uint32_t lwkt_bank_open(const lwkt_token *tokens, size_t count, uint32_t seats, 
 // while another call has the seat, with 53 where it was given up as lost, and with 51 where it holds a token; else with 39 where the bank
 // has more tokens than there are places. While the call is at work, others may answer 50. Of several closes at once one at most answers
 // 0. With another status than 0 `closings` stays as it was, and the bank too.
-uint32_t lwkt_bank_close(lwkt_bank bank, lwkt_closing *closings, size_t count);
+uint32_t lwkt_bank_close(lwkt_bank bank, lwkt_closing *closings, size_t count) LWKT_MUST_USE;
 
 // Frees what is left of a bank that is closed, or of which a seat was given up as lost, and makes `bank` a bank of zeros. Other copies of
 // it are no banks any more. Refused with 52 for a bank of zeros; with 56 where the bank is open, and no seat of it was given up: it
@@ -332,14 +344,14 @@ uint32_t lwkt_abandon(lwkt_bank bank, uint32_t seat);
 
 // Asks for an exclusive reference to a token, without waiting: a first one, or where the seat holds it exclusively a further one.
 // Refused with 30, 50, 16, 10, 11; and where the seat doesn't hold it, with 20, 23 or 34.
-uint32_t lwkt_take(lwkt_bank bank, uint32_t seat, uint32_t token);
+uint32_t lwkt_take(lwkt_bank bank, uint32_t seat, uint32_t token) LWKT_MUST_USE;
 
 // Asks for a shared reference, without waiting: a first one, or where the seat holds the token a further one, in the mode of its
 // first. Refused with 30, 50, 16, 10; and where the seat doesn't hold it, with 23 or 34. A mark holds off a seat with no reference.
-uint32_t lwkt_share(lwkt_bank bank, uint32_t seat, uint32_t token);
+uint32_t lwkt_share(lwkt_bank bank, uint32_t seat, uint32_t token) LWKT_MUST_USE;
 
 // One reference more to a token that the seat holds, in the mode of its first. Refused with 30, 50, 16, 13, 10.
-uint32_t lwkt_again(lwkt_bank bank, uint32_t seat, uint32_t token);
+uint32_t lwkt_again(lwkt_bank bank, uint32_t seat, uint32_t token) LWKT_MUST_USE;
 
 // Marks a token for an exclusive request: from now on, and until it is next taken exclusively, seats with no reference get no
 // shared one. Refused with 30, 50, 16.
@@ -347,7 +359,7 @@ uint32_t lwkt_mark(lwkt_bank bank, uint32_t seat, uint32_t token);
 
 // Gives a reference back. Where it is the last one of an exclusive holder, and row or record differ from those at the beginning, the
 // token's generation is one more. Refused with 30, 50, 16, 13; and with 19 where they break the law: the token stays held.
-uint32_t lwkt_give(lwkt_bank bank, uint32_t seat, uint32_t token);
+uint32_t lwkt_give(lwkt_bank bank, uint32_t seat, uint32_t token) LWKT_MUST_USE;
 
 // The value of a cell of a token that the seat holds. With another status than 0 `value` stays as it was. Refused with 30, 50, 16,
 // 17, 13.
@@ -359,10 +371,10 @@ uint32_t lwkt_store(lwkt_bank bank, uint32_t seat, uint32_t token, uint32_t cell
 
 // Adds to the cell of a token under LWKT_LAW_TALLY that the seat holds exclusively, and stores the new value in `value`, which with
 // another status than 0 stays as it was. Refused with 30, 50, 16, 13, 18; with 22 under any other law; with 21.
-uint32_t lwkt_add(lwkt_bank bank, uint32_t seat, uint32_t token, uint64_t amount, uint64_t *value);
+uint32_t lwkt_add(lwkt_bank bank, uint32_t seat, uint32_t token, uint64_t amount, uint64_t *value) LWKT_MUST_USE;
 
 // Whether row and record of a token that the seat holds exclusively obey its law: 0 or 19. Refused with 30, 50, 16, 13, 18.
-uint32_t lwkt_lawful(lwkt_bank bank, uint32_t seat, uint32_t token);
+uint32_t lwkt_lawful(lwkt_bank bank, uint32_t seat, uint32_t token) LWKT_MUST_USE;
 
 // Stores row and record again that the token had when the seat took it exclusively; under LWKT_LAW_TALLY nothing. Refused with 30, 50,
 // 16, 13, 18.
@@ -376,7 +388,7 @@ uint32_t lwkt_read_record(lwkt_bank bank, uint32_t seat, uint32_t token, uint8_t
 
 // Writes the record of a token that the seat holds exclusively: these bytes are its record from now on. Refused with 30, 50, 16, 17,
 // 13, 37 as `lwkt_read_record`; with 38 for more than 64 bytes.
-uint32_t lwkt_write_record(lwkt_bank bank, uint32_t seat, uint32_t token, const uint8_t *bytes, size_t length);
+uint32_t lwkt_write_record(lwkt_bank bank, uint32_t seat, uint32_t token, const uint8_t *bytes, size_t length) LWKT_MUST_USE;
 
 // Takes a list of references in order, all or none and without waiting, for a seat that holds nothing, as a thread does that wakes: with
 // 0 it holds exactly these. At the first reference that is missed those in front of it are given back, and the seat holds nothing. Of a
@@ -387,7 +399,7 @@ uint32_t lwkt_write_record(lwkt_bank bank, uint32_t seat, uint32_t token, const 
 // with 39 for another mode; with 10 behind 32 references; with 11 for an exclusive reference to a token whose first one is shared. Else
 // with 20, 23 or 34 at the reference that is missed. `missed` is the place then, 0 for the first; with 0, 30, 50, 51, 52 and 54 it stays
 // as it was. `list` is at `count` references.
-uint32_t lwkt_resume(lwkt_bank bank, uint32_t seat, const lwkt_reference *list, size_t count, size_t *missed);
+uint32_t lwkt_resume(lwkt_bank bank, uint32_t seat, const lwkt_reference *list, size_t count, size_t *missed) LWKT_MUST_USE;
 
 // Gives up all that the seat holds, reference by reference, as a thread does that goes to sleep. A section that has broken its law
 // gets its first row and record again before it ends: then the status is 19, and `restored` is the lowest such token. All is given up

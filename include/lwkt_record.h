@@ -29,8 +29,8 @@
 // happened, and what can't be recorded is never told as a fault of the recorded program. A recorder that keeps the last events
 // (`lwkt_record_keep_last`) writes the back of this front.
 //
-// Who may call. `open`, `token`, `message`, `end*` and `close`: one thread, while nobody records or writes. Events, `enter` and
-// `leave`: any number of threads at once. Two calls at once for one processor are no fault: the second is answered
+// Who may call. `open`, `token`, `message`, `where_to`, `end*` and `close`: one thread, while nobody records or writes. Events, `at`,
+// `enter` and `leave`: any number of threads at once. Two calls at once for one processor are no fault: the second is answered
 // LWKT_RECORD_BUSY (an interrupt that comes into a call of the processor that it interrupts is such a case). `to_*` and
 // `drain*`: one thread at a time, while others record, and a second one is answered BUSY; they write the events that are there
 // when they begin. The recorder must stay where it is from `open` on, and not be copied.
@@ -98,7 +98,8 @@ enum lwkt_record_error {
     LWKT_RECORD_ALL_LENT = 15,    // each processor's number is lent; nothing was done
     LWKT_RECORD_HOLDS = 16,       // the processor has references by what was recorded; its number stays lent
     LWKT_RECORD_NOT_LENT = 17,    // the number isn't lent; nothing was done
-    LWKT_RECORD_MODE = 18         // a whole writing after a drain, or a drain where the last events are kept; nothing was done
+    LWKT_RECORD_MODE = 18,        // a whole writing after a drain, or a drain where the last events are kept; nothing was done
+    LWKT_RECORD_OTHERWISE = 19    // the token has other references than its events leave
 };
 
 // The law of a token's cells, asked at the end of each section that wrote (docs/MODEL.md, "Laws").
@@ -145,13 +146,14 @@ typedef struct lwkt_record_event {
     uint8_t kind;
     uint8_t place; // the token or message
     uint8_t part;  // the cell, or the processor that a message is sent to
-    uint8_t spare;
+    uint16_t where; // where in the recorder's table it stands in which line it was recorded, from 1
 } lwkt_record_event;
 
 // What a processor records into. Its members are the recorder's own, as are those of all types below.
 typedef struct lwkt_record_seat {
     LWKT_RECORD_ATOMIC(bool) busy;
-    LWKT_RECORD_ATOMIC(size_t) used; // how many events were recorded here
+    LWKT_RECORD_ATOMIC(uint16_t) where; // what the next event has as its own
+    LWKT_RECORD_ATOMIC(size_t) used;    // how many events were recorded here
     size_t gone;                     // how many of them aren't here any more, as far as was looked
     size_t place;                    // where the next one goes
     lwkt_record_event *events;
@@ -208,6 +210,7 @@ typedef struct lwkt_record_page {
     void *context;
     uint64_t skip;
     uint64_t length;
+    uint64_t events; // how many were put
     size_t count;
     bool has_failed;
     bool is_short; // a byte wasn't put, because the sink refused those before it
@@ -226,7 +229,11 @@ enum lwkt_record_stage {
     LWKT_RECORD_WRITTEN_OUT
 };
 
-// A recorder, some 21 KB. One that is all zeros, as a static one, isn't open, and neither is one whose opening was refused.
+// The lines in which events are recorded that a recorder tells apart, and the bytes of one that it writes: of a longer one the last.
+#define LWKT_RECORD_LINES 512
+#define LWKT_RECORD_LINE 200
+
+// A recorder, some 26 KB. One that is all zeros, as a static one, isn't open, and neither is one whose opening was refused.
 typedef struct lwkt_record {
     uint64_t mark; // where it is, mixed, once it was opened there
     unsigned processors;
@@ -242,6 +249,8 @@ typedef struct lwkt_record {
     lwkt_record_message_spec message[LWKT_RECORD_MESSAGES];
     lwkt_record_model model;
     lwkt_record_page drain;
+    lwkt_record_page where; // its sink is NULL where nobody asks for the lines
+    LWKT_RECORD_ATOMIC(const char *) lines[LWKT_RECORD_LINES];
     uint64_t drained;      // events
     uint64_t drained_part; // bytes of the opening, or of the closing values
     int stage;
@@ -339,6 +348,19 @@ static inline int lwkt_record_load(lwkt_record *recorder, unsigned processor, un
 // doesn't know whether a share is a first or a further one. Called by the processor itself.
 static inline unsigned lwkt_record_held(const lwkt_record *recorder, unsigned processor, unsigned token);
 
+// Records the event of this call, and that it was recorded in this line of the program: `lwkt_record_here(take, &recorder, self, 0)` for
+// `lwkt_record_take(&recorder, self, 0)`. The recorder and the processor are evaluated twice. For all events, those of messages too.
+#define lwkt_record_here(CALL, RECORDER, PROCESSOR, ...)                                             \
+    (lwkt_record_at(RECORDER, PROCESSOR, __FILE__ ":" LWKT_RECORD_TEXT(__LINE__)),                   \
+     LWKT_RECORD_CALL(CALL)(RECORDER, PROCESSOR, __VA_ARGS__))
+#define LWKT_RECORD_CALL(CALL) lwkt_record_##CALL
+#define LWKT_RECORD_TEXT(LINE) LWKT_RECORD_QUOTED(LINE)
+#define LWKT_RECORD_QUOTED(LINE) #LINE
+
+// The same of the processor's next event, with a text of the program's, such as the line of a caller. The text stays where it is until
+// the trace is written, and is told from others by its address. Of more than 512 texts some aren't kept.
+static inline void lwkt_record_at(lwkt_record *recorder, unsigned processor, const char *text);
+
 // ---------------------------------------------------------------------------------------------------------------------------
 // Events of messages. Each is answered CLOSED, NO_PROCESSOR, NO_MESSAGE, BUSY or FULL where that is so.
 
@@ -375,6 +397,16 @@ static inline int lwkt_record_end(lwkt_record *recorder);
 static inline int lwkt_record_end_cells(lwkt_record *recorder, unsigned token, const uint64_t *cells, unsigned count);
 static inline int lwkt_record_end_generation(lwkt_record *recorder, unsigned token, uint64_t generation);
 
+// The same, and tells how many references to a token there are now, by its own word: none, where all was given back. OTHERWISE where by
+// the events there are more or fewer, as when a give was recorded and its step never done; not where an event was lost. LATE, CLOSED,
+// NO_TOKEN.
+static inline int lwkt_record_end_references(lwkt_record *recorder, unsigned token, uint64_t references);
+
+// Has all that writes the trace say where each event was recorded, of which it knows: to this sink goes a line `NUMBER TEXT` for each,
+// the number being that of the event in the trace, from 0, as a verdict has it. Asked before the first drain. What the sink refuses is
+// answered as what the trace's refuses. LATE, CLOSED.
+static inline int lwkt_record_where_to(lwkt_record *recorder, lwkt_record_sink sink, void *context);
+
 // Says whether the trace is to be written in lines, for `lwkt_check lines` (docs/TRACES.md, "Trace in lines, version 1"): it may
 // then be of any length. A recorder that was just opened writes one text. CLOSED.
 static inline int lwkt_record_in_lines(lwkt_record *recorder, bool in_lines);
@@ -384,6 +416,9 @@ static inline int lwkt_record_in_lines(lwkt_record *recorder, bool in_lines);
 static inline int lwkt_record_to_sink(lwkt_record *recorder, lwkt_record_sink sink, void *context);
 
 #ifndef LWKT_RECORD_FREESTANDING
+// The same as `lwkt_record_where_to`, with a stream, which isn't flushed.
+static inline int lwkt_record_where_to_file(lwkt_record *recorder, FILE *file);
+
 // Writes the trace to a stream, and flushes it. CUT, STREAM, MODE, BUSY, CLOSED.
 static inline int lwkt_record_to_file(lwkt_record *recorder, FILE *file);
 #endif
@@ -566,10 +601,45 @@ static inline size_t lwkt_record_behind(const lwkt_record *recorder, size_t plac
     return place + 1 == recorder->room ? 0 : place + 1;
 }
 
+// Where the place for a text is in the table, from 1; 0 where it isn't there, and there is no room near where it would be.
+static LWKT_RECORD_APART uint16_t lwkt_record_line_of(lwkt_record *recorder, const char *text)
+{
+    unsigned place = (unsigned)(((uint64_t)(uintptr_t)text * UINT64_C(0x9e3779b97f4a7c15)) >> 55), each;
+    for (each = 0; each < 32; each++, place = (place + 1) % LWKT_RECORD_LINES) {
+        const char *found =
+            LWKT_RECORD_IN(atomic_load_explicit)(&recorder->lines[place], LWKT_RECORD_IN(memory_order_relaxed));
+        if (found == NULL && LWKT_RECORD_IN(atomic_compare_exchange_strong_explicit)(&recorder->lines[place], &found, text,
+                                                                                      LWKT_RECORD_IN(memory_order_relaxed),
+                                                                                      LWKT_RECORD_IN(memory_order_relaxed)))
+            return (uint16_t)(place + 1);
+        if (found == text)
+            return (uint16_t)(place + 1);
+    }
+    return 0;
+}
+
+static inline void lwkt_record_at(lwkt_record *recorder, unsigned processor, const char *text)
+{
+    if (!lwkt_record_is_open(recorder) || processor >= recorder->processors || text == NULL)
+        return;
+    LWKT_RECORD_IN(atomic_store_explicit)(&recorder->seats[processor].where, lwkt_record_line_of(recorder, text),
+                                          LWKT_RECORD_IN(memory_order_relaxed));
+}
+
+// What the next event has as its own, which is then none's.
+static inline uint16_t lwkt_record_take_where(lwkt_record_seat *seat)
+{
+    uint16_t where = LWKT_RECORD_IN(atomic_load_explicit)(&seat->where, LWKT_RECORD_IN(memory_order_relaxed));
+    if (where != 0)
+        LWKT_RECORD_IN(atomic_store_explicit)(&seat->where, 0, LWKT_RECORD_IN(memory_order_relaxed));
+    return where;
+}
+
 // Stamps an event and appends it to a buffer that is this call's own.
 static inline int lwkt_record_append(lwkt_record *recorder, lwkt_record_seat *seat, lwkt_record_event event)
 {
     size_t used = lwkt_record_used(seat);
+    event.where = lwkt_record_take_where(seat);
     if (used - seat->gone >= recorder->room && !lwkt_record_finds_room(recorder, seat, used))
         return lwkt_record_lose(recorder, LWKT_RECORD_FULL);
     event.stamp = lwkt_record_stamp(recorder);
@@ -859,6 +929,7 @@ static inline void lwkt_record_clear_seat(lwkt_record_seat *seat, lwkt_record_ev
         seat->held[token] = 0;
         seat->past[token] = 0;
     }
+    LWKT_RECORD_IN(atomic_store_explicit)(&seat->where, 0, LWKT_RECORD_IN(memory_order_relaxed));
     LWKT_RECORD_IN(atomic_store_explicit)(&seat->used, 0, LWKT_RECORD_IN(memory_order_relaxed));
     LWKT_RECORD_IN(atomic_store_explicit)(&seat->busy, false, LWKT_RECORD_IN(memory_order_relaxed));
 }
@@ -925,6 +996,9 @@ static inline int lwkt_record_open_in(lwkt_record *recorder, unsigned processors
     for (each = 0; each < processors; each++)
         LWKT_RECORD_IN(atomic_store_explicit)(&recorder->freed[each], 0, LWKT_RECORD_IN(memory_order_relaxed));
     LWKT_RECORD_IN(atomic_store_explicit)(&recorder->writes, false, LWKT_RECORD_IN(memory_order_relaxed));
+    for (each = 0; each < LWKT_RECORD_LINES; each++)
+        LWKT_RECORD_IN(atomic_store_explicit)(&recorder->lines[each], NULL, LWKT_RECORD_IN(memory_order_relaxed));
+    recorder->where.sink = NULL;
     recorder->stage = LWKT_RECORD_UNDRAINED;
     recorder->processors = processors;
     recorder->mark = lwkt_record_mark_of(recorder);
@@ -1077,6 +1151,32 @@ static inline int lwkt_record_end_generation(lwkt_record *recorder, unsigned tok
     recorder->token[token].end_generation = generation;
     recorder->token[token].has_end_generation = true;
     return lwkt_record_end(recorder);
+}
+
+static inline int lwkt_record_where_to(lwkt_record *recorder, lwkt_record_sink sink, void *context)
+{
+    if (!lwkt_record_is_open(recorder))
+        return LWKT_RECORD_CLOSED;
+    if (recorder->stage != LWKT_RECORD_UNDRAINED)
+        return LWKT_RECORD_LATE;
+    recorder->where.sink = sink;
+    recorder->where.context = context;
+    return LWKT_RECORD_OK;
+}
+
+static inline int lwkt_record_end_references(lwkt_record *recorder, unsigned token, uint64_t references)
+{
+    uint64_t held = 0;
+    unsigned each;
+    int error;
+    if (lwkt_record_is_open(recorder) && token >= recorder->tokens)
+        return LWKT_RECORD_NO_TOKEN;
+    error = lwkt_record_end(recorder);
+    if (error != LWKT_RECORD_OK || lwkt_record_lost(recorder) != LWKT_RECORD_OK)
+        return error;
+    for (each = 0; each < recorder->processors; each++)
+        held += recorder->seats[each].held[token];
+    return held == references ? LWKT_RECORD_OK : LWKT_RECORD_OTHERWISE;
 }
 
 // ---------------------------------------------------------------------------------------------------------------------------
@@ -1250,6 +1350,7 @@ static inline void lwkt_record_begin_page(lwkt_record_page *page, bool in_lines)
 {
     page->skip = 0;
     page->length = 0;
+    page->events = 0;
     page->count = 0;
     page->has_failed = false;
     page->is_short = false;
@@ -1357,6 +1458,7 @@ static LWKT_RECORD_APART void lwkt_record_put_event(lwkt_record_page *page, unsi
                                                     const lwkt_record_event *event)
 {
     bool has_part = kind == LWKT_RECORD_KIND_READ || kind == LWKT_RECORD_KIND_WRITE || kind == LWKT_RECORD_KIND_SEND;
+    page->events += 1;
     lwkt_record_put_break(page, page->has_event ? "," : "");
     lwkt_record_put(page, "\n[\"");
     page->has_event = true;
@@ -1383,6 +1485,22 @@ static inline unsigned lwkt_record_whose(const lwkt_record *recorder, uint64_t s
     return processor;
 }
 
+// Writes where the event was recorded that is put next, if that is asked for and known.
+static inline void lwkt_record_put_where(lwkt_record *recorder, uint64_t number, uint16_t where)
+{
+    const char *text;
+    size_t length = 0;
+    if (recorder->where.sink == NULL || where == 0)
+        return;
+    text = LWKT_RECORD_IN(atomic_load_explicit)(&recorder->lines[where - 1], LWKT_RECORD_IN(memory_order_relaxed));
+    while (text[length] != '\0')
+        length += 1;
+    lwkt_record_put_number(&recorder->where, "", number);
+    lwkt_record_put(&recorder->where, " ");
+    lwkt_record_put(&recorder->where, length > LWKT_RECORD_LINE ? text + (length - LWKT_RECORD_LINE) : text);
+    lwkt_record_put(&recorder->where, "\n");
+}
+
 // Writes the event of this stamp, if it is there.
 static inline bool lwkt_record_put_stamp(lwkt_record *recorder, lwkt_record_page *page, uint64_t stamp)
 {
@@ -1395,6 +1513,7 @@ static inline bool lwkt_record_put_stamp(lwkt_record *recorder, lwkt_record_page
     kind = event->kind;
     if (kind == LWKT_RECORD_KIND_GIVE)
         kind = lwkt_record_found(recorder, processor, event->place);
+    lwkt_record_put_where(recorder, page->events, event->where);
     lwkt_record_put_event(page, processor, kind, event);
     lwkt_record_follow(&recorder->model, processor, kind, event);
     recorder->model.heads[processor] += 1;
@@ -1744,6 +1863,7 @@ static inline int lwkt_record_write_whole(lwkt_record *recorder, lwkt_record_sin
     page.sink = sink;
     page.context = context;
     lwkt_record_begin_page(&page, recorder->in_lines);
+    lwkt_record_begin_page(&recorder->where, true);
     lwkt_record_begin(recorder);
     if (recorder->keeps_last) {
         is_whole = lwkt_record_open_last(recorder, &page) && lwkt_record_put_events(recorder, &page);
@@ -1754,7 +1874,8 @@ static inline int lwkt_record_write_whole(lwkt_record *recorder, lwkt_record_sin
     }
     lwkt_record_put_end(recorder, &page, recorder->has_ended && is_whole);
     lwkt_record_flush(&page);
-    if (page.has_failed)
+    lwkt_record_flush(&recorder->where);
+    if (page.has_failed || recorder->where.has_failed)
         return LWKT_RECORD_STREAM;
     return is_whole ? LWKT_RECORD_OK : LWKT_RECORD_CUT;
 }
@@ -1782,6 +1903,14 @@ static inline bool lwkt_record_has_line(const lwkt_record_page *page)
     return sizeof page->bytes - page->count >= 64;
 }
 
+// Whether the next event's line has room too, once what stands before it is given away.
+static inline bool lwkt_record_has_where(lwkt_record_page *where)
+{
+    if (sizeof where->bytes - where->count < LWKT_RECORD_LINE + 24)
+        lwkt_record_flush(where);
+    return sizeof where->bytes - where->count >= LWKT_RECORD_LINE + 24;
+}
+
 // Writes the events that follow those drained before. Whether these are all.
 static inline bool lwkt_record_drain_events(lwkt_record *recorder)
 {
@@ -1792,7 +1921,8 @@ static inline bool lwkt_record_drain_events(lwkt_record *recorder)
             lwkt_record_free(recorder);
             lwkt_record_flush(page);
         }
-        if (!lwkt_record_has_line(page) || !lwkt_record_put_stamp(recorder, page, recorder->drained))
+        if (!lwkt_record_has_line(page) || !lwkt_record_has_where(&recorder->where) ||
+            !lwkt_record_put_stamp(recorder, page, recorder->drained))
             break;
         recorder->drained += 1;
     }
@@ -1836,7 +1966,8 @@ static inline int lwkt_record_drain_more(lwkt_record *recorder)
         is_whole =
             LWKT_RECORD_IN(atomic_load_explicit)(&recorder->next, LWKT_RECORD_IN(memory_order_relaxed)) == recorder->drained;
     lwkt_record_flush(&recorder->drain);
-    if (recorder->drain.has_failed)
+    lwkt_record_flush(&recorder->where);
+    if (recorder->drain.has_failed || recorder->where.has_failed)
         return LWKT_RECORD_STREAM;
     return is_whole ? LWKT_RECORD_OK : LWKT_RECORD_CUT;
 }
@@ -1844,6 +1975,7 @@ static inline int lwkt_record_drain_more(lwkt_record *recorder)
 static inline void lwkt_record_begin_drain(lwkt_record *recorder)
 {
     lwkt_record_begin_page(&recorder->drain, true);
+    lwkt_record_begin_page(&recorder->where, true);
     lwkt_record_begin(recorder);
     recorder->drained = 0;
     recorder->drained_part = 0;
@@ -1862,6 +1994,7 @@ static inline int lwkt_record_drain(lwkt_record *recorder, lwkt_record_sink sink
     recorder->drain.sink = sink;
     recorder->drain.context = context;
     recorder->drain.has_failed = false;
+    recorder->where.has_failed = false;
     return lwkt_record_unclaim_writing(recorder, lwkt_record_drain_more(recorder));
 }
 
@@ -1889,6 +2022,13 @@ static inline int lwkt_record_flush_file(FILE *file, int error)
     if ((error == LWKT_RECORD_OK || error == LWKT_RECORD_CUT) && fflush(file) != 0)
         return LWKT_RECORD_STREAM;
     return error;
+}
+
+static inline int lwkt_record_where_to_file(lwkt_record *recorder, FILE *file)
+{
+    if (file == NULL)
+        return LWKT_RECORD_STREAM;
+    return lwkt_record_where_to(recorder, lwkt_record_into_file, file);
 }
 
 static inline int lwkt_record_to_file(lwkt_record *recorder, FILE *file)
@@ -1959,8 +2099,9 @@ static inline const char *lwkt_record_words(int error)
                                         "each processor's number is lent",
                                         "the processor holds a recorded token",
                                         "the number isn't lent",
-                                        "the recorder's trace is written in another way"};
-    return error >= LWKT_RECORD_OK && error <= LWKT_RECORD_MODE ? words[error] : "no such error";
+                                        "the recorder's trace is written in another way",
+                                        "the token has other references than its events leave"};
+    return error >= LWKT_RECORD_OK && error <= LWKT_RECORD_OTHERWISE ? words[error] : "no such error";
 }
 
 #endif

@@ -73,28 +73,31 @@ extern "C" {
 
 // Lends a seat to the calling thread: the lowest one that isn't lent, rests in its place and holds nothing; and stores its number. With
 // another status than 0 `seat` stays as it was. Refused with 52; with 57 where there is no such seat.
-static inline uint32_t lwkt_enter(lwkt_seating *seating, uint32_t *seat);
+static inline uint32_t lwkt_enter(lwkt_seating *seating, uint32_t *seat) LWKT_MUST_USE;
 
 // As `lwkt_enter`, but where that answers 57 it waits until a seat is given back.
-static inline uint32_t lwkt_enter_waiting(lwkt_seating *seating, uint32_t *seat, const lwkt_parking *parking);
+static inline uint32_t lwkt_enter_waiting(lwkt_seating *seating, uint32_t *seat, const lwkt_parking *parking) LWKT_MUST_USE;
 
 // Takes a lent seat back, and wakes a thread that waits for one. Refused with 30; with 58 where it isn't lent; with 52, 50, 54, and 51
 // where it holds a token, which `lwkt_block` gives up.
-static inline uint32_t lwkt_leave(lwkt_seating *seating, uint32_t seat, const lwkt_parking *parking);
+static inline uint32_t lwkt_leave(lwkt_seating *seating, uint32_t seat, const lwkt_parking *parking) LWKT_MUST_USE;
 
 // As `lwkt_take`, but where that answers 23 or 34 it waits, and asks again. `waiters` has a place for each token of the bank.
-static inline uint32_t lwkt_take_waiting(lwkt_bank bank, uint32_t seat, uint32_t token, lwkt_waiters *waiters, const lwkt_parking *parking);
+static inline uint32_t lwkt_take_waiting(lwkt_bank bank, uint32_t seat, uint32_t token, lwkt_waiters *waiters,
+                                         const lwkt_parking *parking) LWKT_MUST_USE;
 
 // As `lwkt_share`, but where that answers 23 or 34 it waits, and asks again. A mark that holds it off is cleared by an exclusive holder
 // alone: the thread that set it has to take the token.
-static inline uint32_t lwkt_share_waiting(lwkt_bank bank, uint32_t seat, uint32_t token, lwkt_waiters *waiters, const lwkt_parking *parking);
+static inline uint32_t lwkt_share_waiting(lwkt_bank bank, uint32_t seat, uint32_t token, lwkt_waiters *waiters,
+                                          const lwkt_parking *parking) LWKT_MUST_USE;
 
 // As `lwkt_resume`, but where that answers 23 or 34 it waits for the token that is missed, and asks for the whole list again.
 static inline uint32_t lwkt_resume_waiting(lwkt_bank bank, uint32_t seat, const lwkt_reference *list, size_t count, size_t *missed,
-                                           lwkt_waiters *waiters, const lwkt_parking *parking);
+                                           lwkt_waiters *waiters, const lwkt_parking *parking) LWKT_MUST_USE;
 
 // As `lwkt_give`; where that answers 0 it wakes a thread that waits for the token.
-static inline uint32_t lwkt_give_waking(lwkt_bank bank, uint32_t seat, uint32_t token, lwkt_waiters *waiters, const lwkt_parking *parking);
+static inline uint32_t lwkt_give_waking(lwkt_bank bank, uint32_t seat, uint32_t token, lwkt_waiters *waiters,
+                                        const lwkt_parking *parking) LWKT_MUST_USE;
 
 // As `lwkt_block`, of a bank with so many tokens; where that answers 0 or 19 it wakes a thread for each token that one waits for.
 static inline uint32_t lwkt_block_waking(lwkt_bank bank, uint32_t seat, uint32_t *restored, lwkt_waiters *waiters, size_t tokens,

@@ -103,6 +103,7 @@ static void try_threads(void) {
 
 int main(void) {
     size_t whole = strlen(report);
+    count(strcmp(lwkt_version(), LWKT_VERSION) == 0, "the version of the library");
     for (size_t room = 0; room <= whole + 3; room += 1) try_room(room);
     try_room(4096);
     try_refused("", 33, 0, "lwkt: standard input:1:1: ");

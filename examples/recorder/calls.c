@@ -510,6 +510,9 @@ static void closed_calls(lwkt_record *closed)
     WANT(CLOSED, lwkt_record_end(closed));
     WANT(CLOSED, lwkt_record_end_cells(closed, 0, NULL, 0));
     WANT(CLOSED, lwkt_record_end_generation(closed, 0, 0));
+    WANT(CLOSED, lwkt_record_end_references(closed, 0, 0));
+    WANT(CLOSED, lwkt_record_where_to(closed, refuse, &count));
+    WANT(CLOSED, lwkt_record_here(take, closed, 0, 0));
     WANT(CLOSED, lwkt_record_to_sink(closed, refuse, &count));
     WANT(CLOSED, lwkt_record_to_bytes(closed, NULL, 0, NULL));
     WANT(CLOSED, lwkt_record_lost(closed));
@@ -783,6 +786,129 @@ static void drained(void)
     for (round = 0; round < 4; round++)
         drained_as_whole(round, whole, length);
     fwrite(whole, 1, length, stdout);
+}
+
+// The text of a scene's events, of which each has one, and a last one that is too long.
+static const char *text_at(unsigned event)
+{
+    static const char *const texts[] = {"take.c:1", "read.c:22", "write.c:333"};
+    static char longest[301];
+    memset(longest, 'a', 100);
+    memset(longest + 100, 'b', 200);
+    return event % 4 == 3 ? longest : texts[event % 4];
+}
+
+// So many events, of which each says where it stands, and the lines that have to come of them.
+static size_t events_with_texts(unsigned count, char *lines)
+{
+    unsigned event;
+    size_t length = 0;
+    for (event = 0; event < count; event++) {
+        const char *text = text_at(event), *last = strlen(text) > 200 ? text + strlen(text) - 200 : text;
+        if (event % 5 != 0)
+            lwkt_record_at(&recorder, event % 2, text);
+        WANT(OK, lwkt_record_mark(&recorder, event % 2, 0));
+        if (event % 5 != 0)
+            length += (size_t)sprintf(lines + length, "%u %s\n", event, last);
+    }
+    return length;
+}
+
+// Where each event was recorded, by a line of its own: that of the call, or a text.
+static void where(void)
+{
+    static char lines[60000], wanted[60000], number[16];
+    static lwkt_record_bytes into = {lines, sizeof lines, 0};
+    size_t length;
+    int error, line;
+    open_sum();
+    WANT(OK, lwkt_record_where_to(&recorder, lwkt_record_into_bytes, &into));
+    line = __LINE__, error = lwkt_record_here(share, &recorder, 1, 0);
+    WANT(OK, error);
+    WANT(OK, lwkt_record_give(&recorder, 1, 0));
+    WANT(OK, lwkt_record_end(&recorder));
+    WANT(OK, lwkt_record_to_file(&recorder, stdout));
+    sprintf(number, ":%d\n", line);
+    want_at(__LINE__, strncmp(lines, "0 ", 2) == 0 && strstr(lines, "calls.c") != NULL && strstr(lines, number) == lines + into.length - strlen(number), 1);
+    open_sum();
+    length = events_with_texts(60, wanted);
+    into.length = 0;
+    WANT(OK, lwkt_record_where_to(&recorder, lwkt_record_into_bytes, &into));
+    WANT(OK, lwkt_record_to_sink(&recorder, let_go, NULL));
+    want_at(__LINE__, into.length == length && memcmp(lines, wanted, length) == 0, 1);
+    WANT(OK, lwkt_record_where_to(&recorder, refuse, &error));
+    WANT(STREAM, lwkt_record_to_sink(&recorder, let_go, NULL));
+    WANT(OK, lwkt_record_where_to(&recorder, NULL, NULL));
+    WANT(OK, lwkt_record_to_sink(&recorder, let_go, NULL));
+    WANT(STREAM, lwkt_record_where_to_file(&recorder, NULL));
+}
+
+// The same while it is drained, whatever of it is refused.
+static void where_drained(void)
+{
+    static struct choosy sink, lines;
+    static char wanted[60000];
+    size_t length;
+    int error = LWKT_RECORD_STREAM;
+    unsigned each;
+    for (each = 0; each < 4; each++) {
+        memset(&sink, 0, sizeof sink);
+        memset(&lines, 0, sizeof lines);
+        sink.each = each, lines.each = 3 - each;
+        open_drained(100);
+        WANT(OK, lwkt_record_where_to(&recorder, choose, &lines));
+        length = events_with_texts(150, wanted);
+        do
+            error = lwkt_record_drain(&recorder, choose, &sink);
+        while (error == LWKT_RECORD_STREAM);
+        WANT(OK, error);
+        WANT(LATE, lwkt_record_where_to(&recorder, choose, &lines));
+        want_at(__LINE__, lines.length == length && memcmp(lines.bytes, wanted, length) == 0, 1);
+        WANT(OK, lwkt_record_end(&recorder));
+        while (error != LWKT_RECORD_OK || recorder.stage != LWKT_RECORD_WRITTEN_OUT)
+            error = lwkt_record_drain(&recorder, choose, &sink);
+    }
+    fwrite(sink.bytes, 1, sink.length, stdout);
+}
+
+// What is told again stands in no line, and is counted. A text more than there is room for isn't kept.
+static void last_where(void)
+{
+    static char lines[2000], texts[600][4];
+    static lwkt_record_bytes into = {lines, sizeof lines, 0};
+    unsigned each, known = 0;
+    open_drained(9 + 3);
+    WANT(OK, lwkt_record_keep_last(&recorder));
+    WANT(OK, lwkt_record_where_to(&recorder, lwkt_record_into_bytes, &into));
+    WANT(OK, lwkt_record_take(&recorder, 0, 0));
+    WANT(OK, lwkt_record_again(&recorder, 0, 0));
+    for (each = 0; each < 10; each++) {
+        lwkt_record_at(&recorder, 0, text_at(each % 3));
+        WANT(OK, lwkt_record_load(&recorder, 0, 0));
+    }
+    WANT(OK, lwkt_record_to_file(&recorder, stdout));
+    want_at(__LINE__, into.length == 37 && memcmp(lines, "2 read.c:22\n3 write.c:333\n4 take.c:1\n", 37) == 0, 1);
+    for (each = 0; each < 600; each++)
+        known += lwkt_record_line_of(&recorder, texts[each]) != 0;
+    want_at(__LINE__, known > 400 && known <= 512, 1);
+}
+
+// A give that was recorded and whose step was lost, a take that wasn't recorded, and what is right.
+static void other_references(void)
+{
+    open_sum();
+    WANT(NO_TOKEN, lwkt_record_end_references(&recorder, 1, 0));
+    WANT(OK, lwkt_record_share(&recorder, 0, 0));
+    WANT(OK, lwkt_record_share(&recorder, 1, 0));
+    WANT(OK, lwkt_record_end_references(&recorder, 0, 2));
+    WANT(OTHERWISE, lwkt_record_end_references(&recorder, 0, 1));
+    WANT(OK, lwkt_record_give(&recorder, 0, 0));
+    WANT(OK, lwkt_record_give(&recorder, 1, 0));
+    WANT(OTHERWISE, lwkt_record_end_references(&recorder, 0, 1));
+    WANT(OK, lwkt_record_end_references(&recorder, 0, 0));
+    WANT(OK, lwkt_record_to_file(&recorder, stdout));
+    WANT(NO_PROCESSOR, lwkt_record_take(&recorder, 2, 0));
+    WANT(OK, lwkt_record_end_references(&recorder, 0, 1));
 }
 
 // A sink that tries to write itself.
@@ -1364,12 +1490,16 @@ static const struct scene {
     {"lent_and_lost", lent_and_lost},
     {"lines_lent_to_many", lent_to_many},
     {"lines_drained", drained},
+    {"where", where},
+    {"lines_where_drained", where_drained},
+    {"other_references", other_references},
     {"lines_drained_calls", drained_calls},
     {"lines_drained_full", drained_full},
     {"lines_drained_largest", drained_largest},
     {"lines_drained_while_others_record", drained_while_others_record},
     {"lines_drained_by_two", drained_by_two},
     {"last_calls", last_calls},
+    {"last_where", last_where},
     {"last_in_a_section", last_in_a_section},
     {"last_law", last_law},
     {"last_held", last_held},

@@ -40,7 +40,7 @@ static lwkt_record recorder;
 // A further reference to a token that the thread has.
 static bool token_again(struct thread *self, struct token *token)
 {
-    lwkt_record_again(&recorder, self->number, token->number);
+    lwkt_record_here(again, &recorder, self->number, token->number);
     self->of[token->number].references += 1;
     self->references += 1;
     return true;
@@ -62,7 +62,7 @@ static bool token_try(struct thread *self, struct token *token)
     while ((count & ~TOKEN_REQUEST) == 0) {
         if (atomic_compare_exchange_weak_explicit(&token->count, &count, TOKEN_EXCLUSIVE, memory_order_acquire,
                                                   memory_order_relaxed)) {
-            lwkt_record_take(&recorder, self->number, token->number);
+            lwkt_record_here(take, &recorder, self->number, token->number);
             token_begin(self, token, true);
             return true;
         }
@@ -90,7 +90,7 @@ static bool token_try_shared(struct thread *self, struct token *token)
     while ((count & token_refusing(self)) == 0) {
         if (atomic_compare_exchange_weak_explicit(&token->count, &count, count + TOKEN_SHARED, memory_order_acquire,
                                                   memory_order_relaxed)) {
-            lwkt_record_share(&recorder, self->number, token->number);
+            lwkt_record_here(share, &recorder, self->number, token->number);
             token_begin(self, token, false);
             return true;
         }
@@ -103,7 +103,7 @@ static inline void token_get(struct thread *self, struct token *token)
 {
     while (!token_try(self, token)) {
         if ((atomic_fetch_or_explicit(&token->count, TOKEN_REQUEST, memory_order_relaxed) & TOKEN_REQUEST) == 0)
-            lwkt_record_mark(&recorder, self->number, token->number);
+            lwkt_record_here(mark, &recorder, self->number, token->number);
         sched_yield();
     }
 }
@@ -141,9 +141,9 @@ static void token_release(struct thread *self, struct token *token)
         token_leave(token, own->is_exclusive);
         token_was_left();
     }
-    lwkt_record_give(&recorder, self->number, token->number);
+    lwkt_record_here(give, &recorder, self->number, token->number);
 #else
-    lwkt_record_give(&recorder, self->number, token->number);
+    lwkt_record_here(give, &recorder, self->number, token->number);
     if (is_last)
         token_leave(token, own->is_exclusive);
 #endif
@@ -153,14 +153,14 @@ static void token_release(struct thread *self, struct token *token)
 static uint64_t cell_read(struct thread *self, struct token *token, unsigned cell)
 {
     uint64_t value = token->cells[cell];
-    lwkt_record_read(&recorder, self->number, token->number, cell, value);
+    lwkt_record_here(read, &recorder, self->number, token->number, cell, value);
     return value;
 }
 
 static void cell_write(struct thread *self, struct token *token, unsigned cell, uint64_t value)
 {
     token->cells[cell] = value;
-    lwkt_record_write(&recorder, self->number, token->number, cell, value);
+    lwkt_record_here(write, &recorder, self->number, token->number, cell, value);
 }
 
 // How far the two threads have come that meet. It orders nothing but their steps: what the cells have rests on the tokens alone.

@@ -173,11 +173,14 @@ static void run_threads(void)
 
 int main(int count, char **arguments)
 {
+    FILE *where = getenv("WHERE") == NULL ? NULL : fopen(getenv("WHERE"), "w");
     if (count > 1)
         sections = (unsigned)strtoul(arguments[1], NULL, 10);
     want(lwkt_record_open(&recorder, THREADS, TOKENS, 0,
                           count > 2 ? (size_t)strtoul(arguments[2], NULL, 10) : (size_t)sections * 40 + 100),
          "open");
+    if (where != NULL)
+        want(lwkt_record_where_to_file(&recorder, where), "where");
     if (count > 2)
         want(lwkt_record_keep_last(&recorder), "the last events");
     want(lwkt_record_token(&recorder, accounts.number, LWKT_RECORD_SUM, 300, 0, accounts.cells, 3), "accounts");
@@ -188,5 +191,5 @@ int main(int count, char **arguments)
     want(lwkt_record_lost(&recorder), "a lost event");
     want(lwkt_record_to_file(&recorder, stdout), "the trace");
     lwkt_record_close(&recorder);
-    return 0;
+    return where == NULL || fclose(where) == 0 ? 0 : 1;
 }

@@ -5,6 +5,7 @@ use Rattle.std.proofs.lemmas.Option.{slice_get_cases}
 use Rattle.std.specs.List.{slice_get}
 use Rattle.lwkt_plain.specs.declared.states.Plain.{Plain}
 use Rattle.lwkt_plain.specs.declared.stores.Store.{Store}
+use Rattle.lwkt_plain.specs.Deadlocks.{IsStandstill}
 use Rattle.lwkt_plain.specs.Endings.{HasEnded}
 use Rattle.lwkt_plain.specs.Openings.{opened}
 use Rattle.lwkt_plain.specs.Stores.{form_turn, kept}
@@ -12,10 +13,10 @@ use Rattle.lwkt_script.specs.declared.scripts.Script.{Script}
 use Rattle.lwkt_search.specs.declared.searches.Found.{Found as Searched}
 use Rattle.lwkt_search.specs.declared.searches.Outcome.{Outcome as Last}
 use Rattle.lwkt_search.specs.Losses.{IsLost, IsLostOutcome}
-use Rattle.lwkt_search.specs.Runs.{Told, told_of, all_told, run, HasOutcome, IsLast, IsOrder, IsOutcome, IsShortest}
+use Rattle.lwkt_search.specs.Runs.{Told, told_of, all_told, run, CanReach, HasOutcome, IsLast, IsQuiet, IsOrder, IsOutcome, IsShortest}
 use Rattle.lwkt_explore.specs.declared.outcomes.Outcomes.{Outcomes}
 use Rattle.lwkt_explore.specs.Outcomes.{HasReport}
-use Rattle.lwkt_explore.specs.Searches.{state_after, IsLastState, IsLostAlong, IsSearched, IsShortestOrder, IsToldAt, NoneIsLost, TellsAll}
+use Rattle.lwkt_explore.specs.Searches.{state_after, IsLastAt, IsLastState, IsLostAlong, IsUnended, IsSearched, IsShortestOrder, IsToldAt, NoneIsLost, TellsAll}
 
 -- a list without a first element has none
 pub none_first : {X : Type 0} (xs : List X) → slice_get xs 0 ≡ None → length xs ≡ 0
@@ -100,3 +101,26 @@ all_are_shortest script cpus turns bound found is same whole = λ k one less.
     λ other order leads.
     let C : ℕ → Type 0 = λ n. IsOrder n other in
     best other (subst C (sym same) order) (leads ∙ outcome.leads)
+
+-- each state that was found is one to stop at
+pub are_last : (script : Script) (cpus turns bound : ℕ) (found : Searched Store) → IsSearched script cpus turns bound found → cpus ≡ script.cpus → All (IsLastAt script (kept found.growth.store)) found.outcomes.items
+are_last script cpus turns bound found is same = λ k d less.
+    let start = opened script in
+    let tell : Last → Told Plain = told_of start (kept found.growth.store) in
+    let ones = found.outcomes.items in
+    let long : length (map tell ones) ≡ length ones = length-map ones tell in
+    let L : ℕ → Type 0 = λ n. IsOutcome (form_turn script) (HasEnded script) n start (tell (get_or ones k d)) in
+    let M : Told Plain → Type 0 = λ one. IsOutcome (form_turn script) (HasEnded script) cpus start one in
+    subst L same (subst M (get_or-map tell ones k d (tell d) less) (is.sound k (tell d) (omega (arith, less, long))))
+
+-- one in which a thread hasn't ended is one that no turn changes
+pub still_at : (script : Script) (states : List Plain) (one : Last) (order : List ℕ) → IsLastAt script states one → order ≡ one.order.items → IsUnended script states one.place → IsStandstill script (state_after script order)
+still_at script states one order is same unended =
+    let state : Plain = (told_of (opened script) states one).state in
+    let F : List ℕ → Type 0 = λ xs. IsStandstill script (state_after script xs) in
+    let quiet : IsQuiet (form_turn script) script.cpus state = elim is.last [
+      | inl over ↦ absurd (unended over)
+      | inr still ↦ still
+    ] in
+    let S : Plain → Type 0 = λ p. IsStandstill script p in
+    subst F (sym same) (subst S (sym is.leads) (record { reached = record { order = one.order.items; below = is.order; leads = is.leads }; quiet = quiet }))

@@ -1,5 +1,5 @@
 -- What the search of a script's plain machine finds, and what of it is told (own).
-use Rattle.std.specs.Prelude.{◌≡◌, ℕ, ◌<◌, ◌≤◌, List, All, length, None, IsTrue, IfSome}
+use Rattle.std.specs.Prelude.{◌≡◌, ℕ, ◌<◌, ◌≤◌, List, All, length, None, IsTrue, IfSome, slice_index_or}
 use Rattle.lwkt_plain.specs.declared.states.Plain.{Plain}
 use Rattle.lwkt_plain.specs.declared.stores.Store.{Store}
 use Rattle.lwkt_plain.specs.Endings.{HasEnded}
@@ -10,7 +10,8 @@ use Rattle.lwkt_search.specs.declared.searches.Found.{Found as Searched}
 use Rattle.lwkt_search.specs.declared.searches.Outcome.{Outcome as Last}
 use Rattle.lwkt_search.specs.Graphs.{nodes_of, IsGrown}
 use Rattle.lwkt_search.specs.Losses.{IsLost}
-use Rattle.lwkt_search.specs.Runs.{run, all_told, HasOutcome, IsLast, IsOrder, IsOutcome, IsShortest}
+use Rattle.lwkt_search.specs.Runs.{run, all_told, told_of, HasOutcome, IsLast, IsOrder, IsOutcome, IsShortest}
+use Rattle.lwkt_explore.specs.declared.outcomes.Kind.TheVariants.{Stuck}
 use Rattle.lwkt_explore.specs.declared.outcomes.Outcomes.{Outcomes}
 use Rattle.lwkt_explore.specs.declared.searches.Found.{Found}
 use Rattle.lwkt_explore.specs.Extents.{is_complete}
@@ -32,6 +33,18 @@ AreShortest script outcomes = All (λ outcome. IsShortestOrder script outcome.or
 -- a state to stop at: all threads have ended there that are no services, or no turn changes it
 abbrev pub IsLastState : Script → ℕ → Plain → Type 0
 IsLastState script cpus state = IsLast (form_turn script) (HasEnded script) cpus state
+
+-- it is so of the state that the order of each stuck one of these leads to
+abbrev pub StuckAt : (Plain → Type 0) → Script → Outcomes → Type 0
+StuckAt P script outcomes = All (λ outcome. outcome.kind ≡ Stuck → P (state_after script outcome.order.items)) outcomes.all.items
+
+-- a state that was found is one to stop at, and its order leads there
+abbrev pub IsLastAt : Script → List Plain → Last → Type 0
+IsLastAt script states one = IsOutcome (form_turn script) (HasEnded script) script.cpus (opened script) (told_of (opened script) states one)
+
+-- in the state of a number a thread hasn't ended that is no service
+abbrev pub IsUnended : Script → List Plain → ℕ → Type 0
+IsUnended script states place = HasEnded script (slice_index_or states place (opened script)) → ⊥
 
 -- what a search of a script's plain machine found, by orders of so many turns and with so many states at the most
 pub record IsSearched (script : Script) (cpus turns bound : ℕ) (found : Searched Store) : Type 0 where

@@ -4,7 +4,8 @@ ghost use Rattle.std.specs.List.{Any};
 ghost use Rattle.lwkt_run.specs.Run.{AreThere, IsOrderRun, end_of_closing};
 ghost use Rattle.lwkt_script.specs.declared.scripts.Script.{Script};
 ghost use Rattle.lwkt_explore.specs.Outcomes.{settled_text, IsKind, IsOutcome, AreAlike, AreOnce, AreOutcomes, AreShort, AreWhole, HasEnded, HasReport, HasRoom, RefusesSearch};
-ghost use Rattle.lwkt_explore.specs.Searches.{IsShortestOrder, AreShortest};
+ghost use Rattle.lwkt_explore.specs.Searches.{state_after, IsShortestOrder, AreShortest, StuckAt};
+ghost use Rattle.lwkt_plain.specs.Deadlocks.{IsStandstill};
 ghost use Rattle.lwkt_explore.specs.Verdicts.{IsOfVerdict};
 
 use crate::watches::Watch;
@@ -70,6 +71,7 @@ fn kind_of(run: &TurnsRun, last_state: LastState) -> Result<Kind, Fault>
     ensures lawful { OnOk result (run.now.closing.verdict ≡ Verdict.Lawful) }
     ensures unlawful { IfErr result (λ fault. IsOfVerdict run.now.closing.verdict fault) }
     ensures kind { IfOk result (λ kind. IsKind kind (end_of_closing run.now.closing)) }
+    ensures stuck { IfOk result (λ kind. kind ≡ Kind.Stuck → last_state ≡ LastState.Quiet) }
 {
     match run.closing.verdict {
         Verdict::Lawful => {}
@@ -98,6 +100,7 @@ fn lawful_run(
     ensures run { IfOk result (λ made. IsOrderRun script.now order.now made.0) }
     ensures lawful { IfOk result (λ made. made.0.closing.verdict ≡ Verdict.Lawful) }
     ensures kind { IfOk result (λ made. IsKind made.1 (end_of_closing made.0.closing)) }
+    ensures stuck { IfOk result (λ made. made.1 ≡ Kind.Stuck → last_state ≡ LastState.Quiet) }
     ensures refused { IfErr result (λ fault. RefusesSearch script.now fault) }
 {
     let run = order_run_of(alloc, script, order)?;
@@ -137,6 +140,7 @@ fn outcome_of<W: Watch>(
     requires { AreThere script.now order.items }
     ensures ok { IfOk result (λ outcome. IsOutcome script.now outcome) }
     ensures order { IfOk result (λ outcome. outcome.order.items ≡ order.items) }
+    ensures stuck { IfOk result (λ outcome. outcome.kind ≡ Kind.Stuck → last_state ≡ LastState.Quiet) }
     ensures refused { IfErr result (λ fault. RefusesSearch script.now fault) }
 {
     let (run, kind) = lawful_run(alloc, script, order.as_slice(), last_state)?;
@@ -272,6 +276,7 @@ impl Outcomes {
         ensures short { (turns : ℕ) → length order.items ≤ turns → AreShort turns self.old → AreShort turns self.new }
         ensures once { AreOnce self.old → AreOnce self.new }
         ensures shortest { IsShortestOrder script.now order.items → AreShortest script.now self.old → AreShortest script.now self.new }
+        ensures stuck { (last_state ≡ LastState.Quiet → IsStandstill script.now (state_after script.now order.items)) → StuckAt (IsStandstill script.now) script.now self.old → StuckAt (IsStandstill script.now) script.now self.new }
         ensures ended { HasEnded self.old → HasEnded self.new }
         ensures whole { IfOk result (λ kind. kind ≢ Kind.Cut → AreWhole self.old → AreWhole self.new) }
         ensures err { OnErr result (self.new.all.items ≡ self.old.all.items) }

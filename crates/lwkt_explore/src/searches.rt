@@ -2,8 +2,9 @@
 ghost use Rattle.std.specs.Prelude.{◌≡◌, ◌≤◌, ◌<◌, true, false, None, [], length, All, IsTrue, IsFalse, IfOk, IfErr, IfSome, OnOk};
 ghost use Rattle.lwkt_explore.specs.Extents.{differs, is_complete};
 ghost use Rattle.lwkt_explore.specs.Outcomes.{AreOnce, AreOutcomes, AreShort, AreWhole, HasEnded, HasReport, RefusesSearch};
-ghost use Rattle.lwkt_explore.specs.Searches.{AreShortest, IsSearched, IsLostAlong, IsShortestOrder, NoneIsLost, TellsWhole};
+ghost use Rattle.lwkt_explore.specs.Searches.{AreShortest, IsLastAt, IsSearched, IsLostAlong, IsShortestOrder, IsUnended, NoneIsLost, StuckAt, TellsWhole};
 ghost use Rattle.lwkt_explore.specs.Tries.{HasTriedStates};
+ghost use Rattle.lwkt_plain.specs.Deadlocks.{IsStandstill, ReadyThreadsWait};
 ghost use Rattle.lwkt_plain.specs.Openings.{opened};
 ghost use Rattle.lwkt_plain.specs.Sound.{IsSound};
 ghost use Rattle.lwkt_plain.specs.Stores.{kept, IsStore};
@@ -21,7 +22,7 @@ use crate::watches::Watch;
 use lwkt_base::memory::from_slice;
 use lwkt_base::{Fault, OutOfMemory};
 use lwkt_machine::Machine;
-use lwkt_plain::{Store, opened_scripts_are_sound};
+use lwkt_plain::{Store, opened_scripts_are_sound, standstills_are_waits};
 use lwkt_script::Script;
 use lwkt_search::{Growth, LAST, Refusal, Seen, Task, lost_states};
 use std::alloc::Global;
@@ -177,6 +178,7 @@ fn bound_of(met: Option<lwkt_search::Bound>, was_refused: bool) -> Option<Bound>
 fn last_state_of(script: &Script, store: &Store, place: usize) -> LastState
     requires store { IsStore store.now }
     requires there { place < length (kept store.now) }
+    ensures { result ≡ LastState.Quiet → IsUnended script.now (kept store.now) place }
 {
     if store.has_ended(script, place) {
         LastState::AllEnded
@@ -198,6 +200,7 @@ fn tell<W: Watch>(
     requires places { All (λ one. one.place < length (kept store.now)) told.now }
     requires orders { All (λ one. AreThere script.now one.order.items) told.now }
     requires few { All (λ one. length one.order.items ≤ turns) told.now }
+    requires ends { All (IsLastAt script.now (kept store.now)) told.now }
     requires outcomes { AreOutcomes script.now outcomes.old }
     requires short { AreShort turns outcomes.old }
     requires whole { AreWhole outcomes.old }
@@ -205,6 +208,7 @@ fn tell<W: Watch>(
     ensures short { AreShort turns outcomes.new }
     ensures once { AreOnce outcomes.old → AreOnce outcomes.new }
     ensures shortest { All (λ one. IsShortestOrder script.now one.order.items) told.now → AreShortest script.now outcomes.old → AreShortest script.now outcomes.new }
+    ensures stuck { StuckAt (IsStandstill script.now) script.now outcomes.old → StuckAt (IsStandstill script.now) script.now outcomes.new }
     ensures whole { IfOk result (λ is_same. IsTrue is_same → AreWhole outcomes.new) }
     ensures told { IfOk result (λ is_same. IsTrue is_same → All (λ one. HasReport script.now one.order.items outcomes.new) told.now) }
     ensures refused { IfErr result (λ fault. RefusesSearch script.now fault) }
@@ -278,6 +282,7 @@ fn told_of<W: Watch>(
     ensures short { AreShort task.now.turns outcomes.new }
     ensures once { AreOnce outcomes.old → AreOnce outcomes.new }
     ensures shortest { IfOk result (λ met. met ≡ None → IsTrue found.now.growth.is_whole → AreShortest script.now outcomes.new) }
+    ensures stuck { IfOk result (λ met. met ≡ None → found.now.growth.met ≡ None → StuckAt (IsStandstill script.now) script.now outcomes.new) }
     ensures whole { IfOk result (λ met. met ≡ None → found.now.growth.met ≡ None → AreWhole outcomes.new) }
     ensures told { IfOk result (λ met. met ≡ None → found.now.growth.met ≡ None → All (λ one. HasReport script.now one.order.items outcomes.new) found.now.outcomes.items) }
     ensures refused { IfErr result (λ fault. RefusesSearch script.now fault) }
@@ -504,6 +509,7 @@ fn ended<W: Watch>(
     ensures short { IfOk result (λ found. AreShort task.now.turns found.outcomes) }
     ensures ended { IfOk result (λ found. is_complete found ≡ true → found.lost ≡ None → HasEnded found.outcomes) }
     ensures whole { IfOk result (λ found. is_complete found ≡ true → AreWhole found.outcomes) }
+    ensures stuck { IfOk result (λ found. is_complete found ≡ true → StuckAt (IsStandstill script.now) script.now found.outcomes) }
     ensures lost { IfOk result (λ found. is_complete found ≡ false → found.lost ≡ None) }
     ensures all { IfOk result (λ found. IsTrue found.is_whole → TellsWhole script.now found) }
     ensures plain { IfOk result (λ found. task.now.machine.method ≡ Method.Plain → is_complete found ≡ true → IsTrue found.is_whole) }
@@ -541,6 +547,8 @@ fn searched<W: Watch>(
     ensures short { IfOk result (λ found. AreShort bounds.turns found.outcomes) }
     ensures ended { IfOk result (λ found. is_complete found ≡ true → found.lost ≡ None → HasEnded found.outcomes) }
     ensures whole { IfOk result (λ found. is_complete found ≡ true → AreWhole found.outcomes) }
+    ensures stuck { IfOk result (λ found. is_complete found ≡ true → StuckAt (IsStandstill script.now) script.now found.outcomes) }
+    ensures waits { IfOk result (λ found. is_complete found ≡ true → StuckAt (ReadyThreadsWait script.now) script.now found.outcomes) }
     ensures lost { IfOk result (λ found. is_complete found ≡ false → found.lost ≡ None) }
     ensures all { IfOk result (λ found. IsTrue found.is_whole → TellsWhole script.now found) }
     ensures plain { IfOk result (λ found. method ≡ Method.Plain → is_complete found ≡ true → IsTrue found.is_whole) }
@@ -559,6 +567,7 @@ fn searched<W: Watch>(
         turns: bounds.turns,
     };
     let mut looking = Looking { watch, goes_on };
+    standstills_are_waits();
     match found_in(alloc, &mut task, &mut looking) {
         Some((found, was_refused)) => {
             ended::<W>(alloc, script, &task, found, was_refused, bounds.compared)
@@ -604,6 +613,10 @@ pub fn explore<W: Watch>(
 
     // If every order was tried, none was cut off.
     ensures whole { IfOk result (λ found. is_complete found ≡ true → AreWhole found.outcomes) }
+
+    // If every order was tried, no turn changes the state of a stuck one, and each thread that is ready there waits for its tokens.
+    ensures stuck { IfOk result (λ found. is_complete found ≡ true → StuckAt (IsStandstill script.now) script.now found.outcomes) }
+    ensures waits { IfOk result (λ found. is_complete found ≡ true → StuckAt (ReadyThreadsWait script.now) script.now found.outcomes) }
 
     // Lost states are shown only if every order was tried.
     ensures lost { IfOk result (λ found. is_complete found ≡ false → found.lost ≡ None) }

@@ -1,6 +1,6 @@
 -- Words that refused lists: which of them a thread can have, and what a test keeps of them.
-use Rattle.std.proofs.Common.{◌≡◌, ◌<◌, ◌≤◌, ◌+◌, ◌*◌, ◌/◌, ◌%◌, ℕ, zero, suc, List, [], ◌∷◌, length, map, refl, ap, sym, ◌∙◌, subst, arith, Option, Some, None, Bool, true, false}
-use Rattle.std.specs.Prelude.{slice_get, slice_set, option_map, option_and_then, if◌then◌else◌, ◌==◌, ◌&&◌, ◌||◌, not, nat_le, nat_lt}
+use Rattle.std.proofs.Common.{◌≡◌, ◌<◌, ◌≤◌, ◌+◌, ◌*◌, ◌/◌, ◌%◌, ℕ, zero, suc, List, [], ◌∷◌, length, map, take, refl, ap, sym, ◌∙◌, subst, arith, Option, Some, None, Bool, true, false}
+use Rattle.std.specs.Prelude.{slice_get, slice_set, option_map, option_and_then, if◌then◌else◌, ◌==◌, ◌&&◌, not, nat_le, nat_lt}
 use Rattle.std.specs.Option.{option_map_or}
 use Rattle.std.proofs.lemmas.Bool.{false≢true, and_parts, and_from, eq-eqb, eqb-true, le-leb, leb-true}
 use Rattle.std.proofs.lemmas.List.{map-set}
@@ -8,7 +8,7 @@ use Rattle.std.proofs.lemmas.Option.{slice_get-map, none-some, same_Some}
 use Rattle.lwkt_base.specs.declared.names.Ref.{Ref}
 use Rattle.lwkt_base.specs.declared.words.TokWord.{TokWord}
 use Rattle.lwkt_base.specs.TokenWord.{bit, word_of, decision, Fits}
-use Rattle.lwkt_base.specs.Refs.{is_alone}
+use Rattle.lwkt_base.specs.Refs.{names, is_alone}
 use Rattle.lwkt_core.specs.declared.tokens.Token.{Token}
 use Rattle.lwkt_core.specs.Machine.{changed}
 use Rattle.lwkt_plain.specs.declared.nexts.Miss.{Miss}
@@ -68,7 +68,7 @@ Test = List Ref → BusyAt → Bool
 abbrev pub sift : Test → Words
 sift can refs busy = option_and_then (λ b. if can refs b then Some b else None) busy
 
--- whether a word refuses a list at its first place
+-- whether a word refuses a reference of a list
 abbrev pub is_word : Option Miss → ℕ → Bool
 is_word None word = false
 is_word (Some Worn) word = false
@@ -77,8 +77,9 @@ is_word (Some (Busy other)) word = other == word
 abbrev pub refuses : TokWord → List Ref → Ref → ℕ → Bool
 refuses w refs r word = is_word (refusal w (decision w r.mode (is_alone refs r.tok.0))) word
 
-abbrev pub first_refuses : List Ref → BusyAt → Bool
-first_refuses refs b = option_map_or (λ r. refuses (word_parts b.word) refs r b.word) (slice_get refs 0) true
+-- whether a word refuses the reference at its place, those in front of it being held
+abbrev pub has_refused : List Ref → BusyAt → Bool
+has_refused refs b = option_map_or (λ r. not (names (take b.at refs) r.tok.0) && refuses (word_parts b.word) refs r b.word) (slice_get refs b.at) false
 
 -- whether a word is no younger than its token
 abbrev pub is_behind : ℕ → Option Token → Bool
@@ -88,10 +89,9 @@ is_behind word (Some tok) = nat_le (generation_in word) tok.generation
 abbrev pub is_old : List Token → Test
 is_old tokens refs b = option_map_or (λ r. is_behind b.word (slice_get tokens r.tok.0)) (slice_get refs b.at) true
 
--- whether a word can be one that refused a list: then it would refuse it again, if it stands at its first place; and its token is at the
--- word's generation or behind that
+-- whether a word can be one that refused a list: then it would refuse it again; and its token is at the word's generation or behind that
 abbrev pub may_be : List Token → Test
-may_be tokens refs b = (not (b.at == 0) || first_refuses refs b) && is_old tokens refs b
+may_be tokens refs b = has_refused refs b && is_old tokens refs b
 
 -- the words of a state are such
 abbrev pub AreOld : Plain → Type 0
@@ -149,8 +149,8 @@ old_on old new rises refs b is = go (slice_get refs b.at) is
 
 pub may_on : (old new : List Token) → Rises old new → (refs : List Ref) (b : BusyAt) → may_be old refs b ≡ true → may_be new refs b ≡ true
 may_on old new rises refs b is =
-    let parts = and_parts (not (b.at == 0) || first_refuses refs b) (is_old old refs b) is in
-    and_from (not (b.at == 0) || first_refuses refs b) (is_old new refs b) parts.0 (old_on old new rises refs b parts.1)
+    let parts = and_parts (has_refused refs b) (is_old old refs b) is in
+    and_from (has_refused refs b) (is_old new refs b) parts.0 (old_on old new rises refs b parts.1)
 
 -- a word that can match after generations have risen could match before
 matched : (word : ℕ) (old new : Option Token) → RisesAt new old → is_behind word old ≡ true → option_map_or (λ (t : Token). t.generation == generation_in word) new false ≡ true → option_map_or (λ (t : Token). t.generation == generation_in word) old false ≡ true
@@ -177,7 +177,7 @@ keep_twice f g b false false fx gy more = ap (λ (a : Bool). option_and_then (λ
 old_kept : (old new : List Token) → Rises old new → (refs : List Ref) (b : BusyAt) (x : Bool) → may_be old refs b ≡ x → kept_word new refs (kept_word old refs (if x then Some b else None)) ≡ kept_word new refs (if x then Some b else None)
 old_kept old new rises refs b false is = refl
 old_kept old new rises refs b true is =
-    let behind = (and_parts (not (b.at == 0) || first_refuses refs b) (is_old old refs b) is).1 in
+    let behind = (and_parts (has_refused refs b) (is_old old refs b) is).1 in
     keep_twice (can_match old refs) (can_match new refs) b (can_match old refs b) (can_match new refs b) refl refl (match_on old new rises refs b behind)
 
 pub kept_on : (old new : List Token) → Rises old new → (refs : List Ref) (busy : Option BusyAt) → kept_word new refs (kept_word old refs (sift (may_be old) refs busy)) ≡ kept_word new refs (sift (may_be old) refs busy)

@@ -30,49 +30,29 @@ use Rattle.lwkt_base.specs.declared.asks.Answer.TheVariants.{Done}
 use Rattle.lwkt_plain.specs.Tokens.{stepped, miss_of, is_broken, mended, giving_event, given, gave, Gave, give, gives, Tried, tried, takes}
 use Rattle.lwkt_plain.specs.TokenAsks.{Asked, asked, refused, unless, get_refusal, had, marked_for, must_switch, get, try_missed, try_get, last_of, front_of, released, rel, swapped, exchanged, tok_at, are_same, read, unless_cell, unless_exclusive, value_of, write, add, add_refusal, has_tally, record_refusal, record_of, read_blob, write_blob}
 use Rattle.lwkt_plain.specs.Turns.{token_ask, ref_to}
-use Rattle.lwkt_plain.proofs.Takings.{after_miss, takes_none, takes_more}
+use Rattle.lwkt_plain.proofs.TokenRelations.{RelatesAt, Relates, relates_same, relates_both, step_relates, give_relates, gives_relates, takes_relates}
 
 -- where a token is now it was, at its generation or behind that
+abbrev pub Up : Token → Token → Type 0
+Up old new = old.generation ≤ new.generation
+
 abbrev pub RisesAt : Option Token → Option Token → Type 0
-RisesAt None old = Unit {0}
-RisesAt (Some new) None = ⊥
-RisesAt (Some new) (Some old) = old.generation ≤ new.generation
+RisesAt new old = RelatesAt Up new old
 
 abbrev pub Rises : List Token → List Token → Type 0
-Rises old new = (i : ℕ) → RisesAt (slice_get new i) (slice_get old i)
+Rises old new = Relates Up old new
 
-same_rises : (o : Option Token) → RisesAt o o
-same_rises None = tt
-same_rises (Some tok) = omega arith
+up_self : (tok : Token) → Up tok tok
+up_self tok = omega arith
+
+up_both : (a b c : Token) → Up a b → Up b c → Up a c
+up_both a b c one other = omega (arith, one, other)
 
 pub rises_same : (tokens : List Token) → Rises tokens tokens
-rises_same tokens i = same_rises (slice_get tokens i)
-
-both_rise : (a b c : Option Token) → RisesAt b a → RisesAt c b → RisesAt c a
-both_rise a b None one other = tt
-both_rise a None (Some z) one other = absurd other
-both_rise None (Some y) (Some z) one other = absurd one
-both_rise (Some x) (Some y) (Some z) one other = omega (arith, one, other)
+rises_same tokens = relates_same Up up_self tokens
 
 pub rises_both : (a b c : List Token) → Rises a b → Rises b c → Rises a c
-rises_both a b c one other i = both_rise (slice_get a i) (slice_get b i) (slice_get c i) (one i) (other i)
-
--- one token changed
-tail_by : {A : Type 0} (f : A → A) (x : A) (xs : List A) (j : ℕ) (o : Option A) → option_map_or (λ y. slice_set (x ∷ xs) (suc j) (f y)) o (x ∷ xs) ≡ x ∷ option_map_or (λ y. slice_set xs j (f y)) o xs
-tail_by f x xs j None = refl
-tail_by f x xs j (Some y) = refl
-
-changed_tail : {A : Type 0} (f : A → A) (x : A) (xs : List A) (j : ℕ) → changed f (x ∷ xs) (suc j) ≡ x ∷ changed f xs j
-changed_tail f x xs j = tail_by f x xs j (slice_get xs j)
-
-pub rises_changed : (f : Token → Token) → ((t : Token) → t.generation ≤ (f t).generation) → (tokens : List Token) (j : ℕ) → Rises tokens (changed f tokens j)
-rises_changed f up [] j i = rises_same [] i
-rises_changed f up (x ∷ xs) zero zero = up x
-rises_changed f up (x ∷ xs) zero (suc i) = rises_same xs i
-rises_changed f up (x ∷ xs) (suc j) zero =
-    subst (λ (ys : List Token). RisesAt (slice_get ys 0) (Some x)) (sym (changed_tail f x xs j)) (same_rises (Some x))
-rises_changed f up (x ∷ xs) (suc j) (suc i) =
-    subst (λ (ys : List Token). RisesAt (slice_get ys (suc i)) (slice_get xs i)) (sym (changed_tail f x xs j)) (rises_changed f up xs j i)
+rises_both a b c one other = relates_both Up up_self up_both a b c one other
 
 -- by an event
 after_rises : (tok : Token) (e : Event) → tok.generation ≤ (token_after tok e).generation
@@ -95,12 +75,8 @@ after_rises tok (Reply cpu msg) = omega arith
 after_rises tok (Reap cpu msg) = omega arith
 after_rises tok (Abort cpu msg) = omega arith
 
-step_at : (tokens : List Token) (e : Event) (place : Place) → Rises tokens (after_at (machine 0 tokens []) e place).tokens
-step_at tokens e (AtToken i) = rises_changed (λ tok. token_after tok e) (λ tok. after_rises tok e) tokens i
-step_at tokens e (AtMessage i) = rises_same tokens
-
 pub step_rises : (tokens : List Token) (e : Event) → Rises tokens (stepped tokens e)
-step_rises tokens e = step_at tokens e (place_of e)
+step_rises tokens e = step_relates Up up_self tokens e (λ tok. after_rises tok e)
 
 -- by what is given back
 mended_if : (cpu : CpuId) (tok : Token) (b : Bool) → (if b then record tok { row = tok.first; blob = tok.first_blob } else tok).generation ≡ tok.generation
@@ -114,25 +90,15 @@ given_rises cpu t tok =
     omega (arith, same, up)
 
 give_rises : (cpu : CpuId) (g : Gave) (r : Ref) → Rises g.tokens (give cpu g r).tokens
-give_rises cpu g r = rises_changed (given cpu r.tok) (given_rises cpu r.tok) g.tokens r.tok.0
+give_rises cpu g r = give_relates Up up_self up_both given_rises cpu g r
 
 pub gives_rises : (cpu : CpuId) (tokens : List Token) (refs : List Ref) → Rises tokens (gives cpu tokens refs).tokens
-unfolding gives
-gives_rises cpu tokens [] = rises_same tokens
-gives_rises cpu tokens (r ∷ refs) = rises_both tokens (gives cpu tokens refs).tokens (give cpu (gives cpu tokens refs) r).tokens (gives_rises cpu tokens refs) (give_rises cpu (gives cpu tokens refs) r)
+gives_rises cpu tokens refs = gives_relates Up up_self up_both given_rises cpu tokens refs
 
 -- by a try of a list
-after_rise : (cpu : CpuId) (refs : List Ref) (tokens : List Token) (front : List Ref) (r : Ref) (rest : List Ref) (why : Option Miss) → Rises (stepped tokens (taking_event cpu front r)) (takes cpu refs (stepped tokens (taking_event cpu front r)) (front ++ r ∷ []) rest).tokens → Rises tokens (after_miss cpu refs tokens front r rest why).tokens
-after_rise cpu refs tokens front r rest None ih =
-    let next = stepped tokens (taking_event cpu front r) in
-    rises_both tokens next (takes cpu refs next (front ++ r ∷ []) rest).tokens (step_rises tokens (taking_event cpu front r)) ih
-after_rise cpu refs tokens front r rest (Some why) ih = gives_rises cpu tokens front
-
 pub takes_rises : (cpu : CpuId) (refs rest : List Ref) (tokens : List Token) (front : List Ref) → Rises tokens (takes cpu refs tokens front rest).tokens
-takes_rises cpu refs [] tokens front = subst (λ (x : Tried). Rises tokens x.tokens) (sym (takes_none cpu refs tokens front)) (rises_same tokens)
-takes_rises cpu refs (r ∷ rest) tokens front =
-    subst (λ (x : Tried). Rises tokens x.tokens) (sym (takes_more cpu refs tokens front r rest))
-    (after_rise cpu refs tokens front r rest (miss_of tokens refs front r) (takes_rises cpu refs rest (stepped tokens (taking_event cpu front r)) (front ++ r ∷ [])))
+takes_rises cpu refs rest tokens front =
+    takes_relates Up up_self up_both given_rises (λ cpu' front' r tok. after_rises tok (taking_event cpu' front' r)) cpu refs rest tokens front
 
 -- by an ask
 pub record RisesTo (tokens : List Token) (a : Asked) : Type 0 where

@@ -1,4 +1,4 @@
-use Rattle.std.proofs.Common.{◌≡◌, ℕ, ◌+◌, ◌<◌, ◌≤◌, inl, inr, List, [], ◌∷◌, ◌++◌, suc, length, arith, ap, subst, sym, ◌∙◌, add-one, slice_index_or, Bool}
+use Rattle.std.proofs.Common.{◌≡◌, ℕ, ◌+◌, ◌<◌, ◌≤◌, inl, inr, List, [], ◌∷◌, ◌++◌, suc, length, arith, ap, subst, sym, ◌∙◌, add-one, slice_index_or, slice_get, Bool}
 use Rattle.std.specs.Bool.{if◌then◌else◌}
 use Rattle.std.proofs.lemmas.Bool.{le-ltb, lt-ltb}
 use Rattle.lwkt_core.specs.declared.tokens.Token.{Token}
@@ -14,6 +14,9 @@ use Rattle.lwkt_plain.specs.declared.states.Mail.{Mail}
 use Rattle.lwkt_plain.specs.declared.states.Plain.{Plain}
 use Rattle.lwkt_plain.specs.declared.states.Processor.{Processor}
 use Rattle.lwkt_plain.specs.declared.stores.Store.{Store}
+use Rattle.lwkt_plain.specs.Others.{CpuFollows, MailFollows}
+use Rattle.lwkt_plain.specs.Tables.{AreFollowed}
+use Rattle.lwkt_plain.proofs.Follows.{cpu_follows, followed, mail_follows}
 use Rattle.lwkt_plain.specs.Hashes.{token_key, letter_key, mail_key, processor_key}
 use Rattle.lwkt_plain.specs.Shelves.{lists_in, HasLists, IsShelf}
 use Rattle.lwkt_plain.specs.Sound.{IsSound}
@@ -85,16 +88,23 @@ store_moved s w T L M C are shelves is =
 unmoved : (s : Store) → AreMoved s s.tokens s.letters s.mails s.cpus
 unmoved s = record { of_tokens = lists_still s.tokens; of_letters = lists_still s.letters; of_mails = lists_still s.mails; of_cpus = lists_still s.cpus }
 
--- another state is worked on, with as many parts of each kind
-pub store_working : (s : Store) (w : Plain) → IsStore s → IsSound w → length w.tokens ≡ length s.tokens.numbers.items → length w.letters ≡ length s.letters.numbers.items → length w.mails ≡ length s.mails.numbers.items → length w.cpus ≡ length s.cpus.numbers.items → IsBase (record s { work = w })
-store_working s w is sound nt nl nm nc = record {
-  tokens = record { lists = is.tokens.lists; numbers = is.tokens.numbers; count = nt };
-  letters = record { lists = is.letters.lists; numbers = is.letters.numbers; count = nl };
-  mails = record { lists = is.mails.lists; numbers = is.mails.numbers; count = nm };
-  cpus = record { lists = is.cpus.lists; numbers = is.cpus.numbers; count = nc };
-  states = (states_moved s w s.tokens s.letters s.mails s.cpus (unmoved s) is.states).0;
-  work = sound;
-}
+-- another state is worked on, with as many parts of each kind, to which a turn led
+pub store_working : (script : Script) (s : Store) (w : Plain) (cpu : ℕ) → IsStore s → IsSound w → w ≡ form (turn script s.work cpu) → length w.tokens ≡ length s.tokens.numbers.items → length w.letters ≡ length s.letters.numbers.items → length w.mails ≡ length s.mails.numbers.items → length w.cpus ≡ length s.cpus.numbers.items → IsBase cpu (record s { work = w })
+store_working script s w cpu is sound led nt nl nm nc =
+    let mails : AreFollowed (MailFollows cpu) s.mails.table.parts.items w.mails s.mails.numbers.items = followed (MailFollows cpu) s.mails.table.parts.items s.work.mails w.mails s.mails.numbers.items is.mails.names
+    (λ k old now was at. mail_follows script s.work cpu k old now was (ap (λ (p : Plain). slice_get p.mails k) (sym led) ∙ at))
+    in
+    let cpus : AreFollowed (CpuFollows cpu) s.cpus.table.parts.items w.cpus s.cpus.numbers.items = followed (CpuFollows cpu) s.cpus.table.parts.items s.work.cpus w.cpus s.cpus.numbers.items is.cpus.names
+    (λ k old now was at. cpu_follows script s.work cpu k old now was (ap (λ (p : Plain). slice_get p.cpus k) (sym led) ∙ at))
+    in
+    record {
+      tokens = record { lists = is.tokens.lists; numbers = is.tokens.numbers; count = nt; follow = record { each = λ k h old new was at. tt {0} } };
+      letters = record { lists = is.letters.lists; numbers = is.letters.numbers; count = nl; follow = record { each = λ k h old new was at. tt {0} } };
+      mails = record { lists = is.mails.lists; numbers = is.mails.numbers; count = nm; follow = mails };
+      cpus = record { lists = is.cpus.lists; numbers = is.cpus.numbers; count = nc; follow = cpus };
+      states = (states_moved s w s.tokens s.letters s.mails s.cpus (unmoved s) is.states).0;
+      work = sound;
+    }
 
 -- the state that is worked on got a number
 kept_states : (s : Store) (codes : Codes) (n : ℕ) → IsStore s → IsSound s.work → AreCodes codes.width codes.flat.items (length codes.index.links.items) codes.index.heads.items codes.index.links.items → codes.width ≡ s.codes.width → HasCoded s.codes codes (code_now s) n → AreStates (record s { codes = codes })

@@ -60,7 +60,7 @@ table_again hash parts heads links heads' links' is index = record { index = ind
 pub extends_self : {P : Type 0} (parts : List P) → Extends parts parts
 extends_self parts = record { more = []; is = sym (append-nil parts) }
 
-get_some : {P : Type 0} (table : List P) (n : ℕ) (p : P) → n < length table → slice_index_or table n p ≡ p → slice_get table n ≡ Some p
+pub get_some : {P : Type 0} (table : List P) (n : ℕ) (p : P) → n < length table → slice_index_or table n p ≡ p → slice_get table n ≡ Some p
 get_some [] n p there is = absurd (omega arith)
 get_some (q ∷ table) zero p there is = ap Some is
 get_some (q ∷ table) (suc n) p there is = let less : n < length table = omega arith in get_some table n p less is

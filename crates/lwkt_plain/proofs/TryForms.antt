@@ -80,7 +80,7 @@ kept_some tokens refs (Some x) b is = go (can_match tokens refs x) is
     go true same = same
     go false same = absurd (none-some b same)
 
-may_some : (b : BusyAt) (x : Bool) → (if x then Some b else None) ≡ Some b → x ≡ true
+pub may_some : (b : BusyAt) (x : Bool) → (if x then Some b else None) ≡ Some b → x ≡ true
 may_some b true is = refl
 may_some b false is = absurd (none-some b is)
 
@@ -164,7 +164,7 @@ module _ (c k : ℕ) (p q : Plain) (a : Alike p q) (sound : IsSound q) (s t : Th
       })
 
 -- whether a thread is tried
-tried_is : (phase : Phase) (tokens : List Token) (t : Thread) → may_try_in phase tokens t ≡ true → (phase ≡ Live) × (is_still_busy tokens t ≡ false)
+pub tried_is : (phase : Phase) (tokens : List Token) (t : Thread) → may_try_in phase tokens t ≡ true → (phase ≡ Live) × (is_still_busy tokens t ≡ false)
 tried_is Live tokens t is = (refl, off (is_still_busy tokens t) is)
   where
     off : (b : Bool) → not b ≡ true → b ≡ false
@@ -175,14 +175,14 @@ tried_is (AwaitsReply msg) tokens t is = absurd (false≢true is)
 tried_is Exited tokens t is = absurd (false≢true is)
 tried_is (Faulted fault) tokens t is = absurd (false≢true is)
 
-untried_is : (tokens : List Token) (t : Thread) → may_try_in Live tokens t ≡ false → is_still_busy tokens t ≡ true
+pub untried_is : (tokens : List Token) (t : Thread) → may_try_in Live tokens t ≡ false → is_still_busy tokens t ≡ true
 untried_is tokens t is = on (is_still_busy tokens t) is
   where
     on : (b : Bool) → not b ≡ false → b ≡ true
     on true isnt = refl
     on false isnt = absurd (false≢true (sym isnt))
 
-some_word : (tokens : List Token) (t : Thread) → is_still_busy tokens t ≡ true → (b : BusyAt) × (t.busy ≡ Some b) × (is_still tokens t.list b ≡ true)
+pub some_word : (tokens : List Token) (t : Thread) → is_still_busy tokens t ≡ true → (b : BusyAt) × (t.busy ≡ Some b) × (is_still tokens t.list b ≡ true)
 some_word tokens t is = go t.busy refl is
   where
     go : (o : Option BusyAt) → t.busy ≡ o → option_map_or (is_still tokens t.list) o false ≡ true → (b : BusyAt) × (t.busy ≡ Some b) × (is_still tokens t.list b ≡ true)
@@ -217,7 +217,7 @@ tries_alike c k p q rests rests_too a = go (may_try p c k) (may_try q c k) refl 
     go false false isnt too = record { place = refl; alike = a }
 
 -- the threads of some numbers
-rests_on : (c : ℕ) (p q : Plain) → Rests c p → StaysIdle c p q → Rests c q
+pub rests_on : (c : ℕ) (p q : Plain) → Rests c p → StaysIdle c p q → Rests c q
 rests_on c p q rests stays =
     let same = stays.cpus in
     let inside = rests.inside in

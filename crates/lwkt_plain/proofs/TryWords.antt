@@ -1,9 +1,10 @@
 -- Words that refuse lists are such as threads can have, and one that is still its token's refuses again.
-use Rattle.std.proofs.Common.{◌≡◌, ◌<◌, ◌≤◌, ◌+◌, ℕ, zero, suc, List, [], ◌∷◌, ◌++◌, length, refl, ap, sym, ◌∙◌, subst, arith, Option, Some, None, Bool, true, false, append_assoc}
-use Rattle.std.specs.Prelude.{slice_get, option_and_then, if◌then◌else◌, ◌==◌, ◌&&◌, ◌||◌, not, nat_lt}
+use Rattle.std.proofs.Common.{◌≡◌, ◌<◌, ◌≤◌, ◌+◌, ℕ, zero, suc, List, [], ◌∷◌, ◌++◌, length, take, refl, ap, sym, ◌∙◌, subst, arith, Option, Some, None, Bool, true, false, append_assoc}
+use Rattle.std.specs.Prelude.{slice_get, option_and_then, if◌then◌else◌, ◌==◌, ◌&&◌, not, nat_lt}
 use Rattle.std.specs.Option.{option_map_or}
-use Rattle.std.proofs.lemmas.Bool.{false≢true, and_parts, and_from, eq-eqb, ne_eqb, eqb-true, le-leb, ltb-false}
+use Rattle.std.proofs.lemmas.Bool.{false≢true, and_parts, and_from, eq-eqb, eqb-true, le-leb, ltb-false}
 use Rattle.std.proofs.lemmas.Option.{none-some, same_Some}
+use Rattle.std.proofs.Math.Seq.{take-append_seam}
 use Rattle.lwkt_base.specs.declared.names.CpuId.{CpuId}
 use Rattle.lwkt_base.specs.declared.names.Ref.{Ref}
 use Rattle.lwkt_base.specs.declared.words.TokWord.{TokWord}
@@ -26,7 +27,7 @@ use Rattle.lwkt_plain.specs.Turns.{is_still}
 use Rattle.lwkt_plain.proofs.TokenSteps.{take_keeps, miss_is, word_fits}
 use Rattle.lwkt_plain.proofs.Takings.{after_miss, takes_none, takes_more, fits_as, front_of}
 use Rattle.lwkt_plain.proofs.Risings.{gives_rises}
-use Rattle.lwkt_plain.proofs.OldWords.{word_parts, parts_are, generation_is, is_word, refuses, first_refuses, is_behind, is_old, may_be, behind_on}
+use Rattle.lwkt_plain.proofs.OldWords.{word_parts, parts_are, generation_is, is_word, refuses, has_refused, is_behind, is_old, may_be, behind_on}
 
 -- the word of a refusal is the word that was read
 abbrev word_in : Miss → ℕ
@@ -52,37 +53,30 @@ is_it : (o : Option Miss) (word : ℕ) → o ≡ Some (Busy word) → is_word o 
 is_it o word is = ap (λ (x : Option Miss). is_word x word) is ∙ eq-eqb word word refl
 
 -- what is known of a reference that is missed for a word
-record MissFacts (tokens : List Token) (refs : List Ref) (r : Ref) (word : ℕ) : Type 0 where
-  tok : Token
-  at : slice_get tokens r.tok.0 ≡ Some tok
-  is : refusal (picture_of tok) (decision (picture_of tok) r.mode (is_alone refs r.tok.0)) ≡ Some (Busy word)
+pub record MissFacts (tokens : List Token) (refs front : List Ref) (r : Ref) (word : ℕ) : Type 0 where
+  pub unnamed : names front r.tok.0 ≡ false
+  pub tok : Token
+  pub at : slice_get tokens r.tok.0 ≡ Some tok
+  pub is : refusal (picture_of tok) (decision (picture_of tok) r.mode (is_alone refs r.tok.0)) ≡ Some (Busy word)
 
-miss_facts : (tokens : List Token) (refs front : List Ref) (r : Ref) (word : ℕ) → miss_of tokens refs front r ≡ Some (Busy word) → MissFacts tokens refs r word
-miss_facts tokens refs front r word missed = named (names front r.tok.0) missed
+pub miss_facts : (tokens : List Token) (refs front : List Ref) (r : Ref) (word : ℕ) → miss_of tokens refs front r ≡ Some (Busy word) → MissFacts tokens refs front r word
+miss_facts tokens refs front r word missed = named (names front r.tok.0) refl missed
   where
     why : Token → Option Miss
     why tok = refusal (picture_of tok) (decision (picture_of tok) r.mode (is_alone refs r.tok.0))
 
-    of_token : (o : Option Token) → slice_get tokens r.tok.0 ≡ o → option_and_then why o ≡ Some (Busy word) → MissFacts tokens refs r word
-    of_token None at is = absurd (none-some (Busy word) is)
-    of_token (Some tok) at is = record { tok = tok; at = at; is = is }
+    of_token : names front r.tok.0 ≡ false → (o : Option Token) → slice_get tokens r.tok.0 ≡ o → option_and_then why o ≡ Some (Busy word) → MissFacts tokens refs front r word
+    of_token unnamed None at is = absurd (none-some (Busy word) is)
+    of_token unnamed (Some tok) at is = record { unnamed = unnamed; tok = tok; at = at; is = is }
 
-    named : (b : Bool) → (if b then None else option_and_then why (slice_get tokens r.tok.0)) ≡ Some (Busy word) → MissFacts tokens refs r word
-    named true is = absurd (none-some (Busy word) is)
-    named false is = of_token (slice_get tokens r.tok.0) refl is
+    named : (b : Bool) → names front r.tok.0 ≡ b → (if b then None else option_and_then why (slice_get tokens r.tok.0)) ≡ Some (Busy word) → MissFacts tokens refs front r word
+    named true unnamed is = absurd (none-some (Busy word) is)
+    named false unnamed is = of_token unnamed (slice_get tokens r.tok.0) refl is
 
 -- the reference behind a front
 seam : (front : List Ref) (r : Ref) (rest : List Ref) → slice_get (front ++ (r ∷ rest)) (length front) ≡ Some r
 seam [] r rest = refl
 seam (x ∷ xs) r rest = seam xs r rest
-
-or_left : (a b : Bool) → a ≡ true → (a || b) ≡ true
-or_left true b is = refl
-or_left false b is = absurd (false≢true is)
-
-or_right : (a b : Bool) → b ≡ true → (a || b) ≡ true
-or_right true b is = refl
-or_right false b is = is
 
 -- a word that refuses a list is such as its thread can have
 abbrev pub IsWell : List Token → List Ref → ℕ → Miss → Type 0
@@ -93,18 +87,17 @@ abbrev pub MissesWell : List Ref → Tried → Type 0
 MissesWell refs x = (m : Missed) → x.missed ≡ Some m → IsWell x.tokens refs m.at m.why
 
 module _ (cpu : CpuId) (tokens : List Token) (sound : AreSoundTokens tokens) (refs : List Ref) (r : Ref) (rest : List Ref) (word : ℕ) where
-  first_well : (front : List Ref) → refs ≡ front ++ (r ∷ rest) → MissFacts tokens refs r word → (not (length front == 0) || first_refuses refs (record { word = word; at = length front })) ≡ true
-  first_well [] is f =
+  refused_well : (front : List Ref) → refs ≡ front ++ (r ∷ rest) → MissFacts tokens refs front r word → has_refused refs (record { word = word; at = length front }) ≡ true
+  refused_well front is f =
       let w = picture_of f.tok in
       let same : word_parts word ≡ w = ap word_parts (busy_word w (decision w r.mode (is_alone refs r.tok.0)) word f.is) ∙ parts_are w (word_fits tokens r.tok.0 f.tok sound f.at) in
       let own : refuses (word_parts word) refs r word ≡ true = ap (λ (x : TokWord). refuses x refs r word) same ∙ is_it _ word f.is in
-      or_right (not (0 == 0)) (first_refuses refs (record { word = word; at = 0 }))
-      (ap (λ (xs : List Ref). option_map_or (λ (q : Ref). refuses (word_parts word) refs q word) (slice_get xs 0) true) is ∙ own)
-  first_well (x ∷ xs) is f =
-      or_left (not (length (x ∷ xs) == 0)) (first_refuses refs (record { word = word; at = length (x ∷ xs) }))
-      (ap not (ne_eqb (length (x ∷ xs)) 0 (λ same. omega (arith, same))))
+      let here : slice_get refs (length front) ≡ Some r = ap (λ (xs : List Ref). slice_get xs (length front)) is ∙ seam front r rest in
+      let before : take (length front) refs ≡ front = ap (take (length front)) is ∙ take-append_seam front (r ∷ rest) in
+      ap (λ (o : Option Ref). option_map_or (λ (q : Ref). not (names (take (length front) refs) q.tok.0) && refuses (word_parts word) refs q word) o false) here
+      ∙ and_from (not (names (take (length front) refs) r.tok.0)) (refuses (word_parts word) refs r word) (ap (λ (xs : List Ref). not (names xs r.tok.0)) before ∙ ap not f.unnamed) own
 
-  old_well : (front : List Ref) → refs ≡ front ++ (r ∷ rest) → MissFacts tokens refs r word → is_old (gives cpu tokens front).tokens refs (record { word = word; at = length front }) ≡ true
+  old_well : (front : List Ref) → refs ≡ front ++ (r ∷ rest) → MissFacts tokens refs front r word → is_old (gives cpu tokens front).tokens refs (record { word = word; at = length front }) ≡ true
   old_well front is f =
       let w = picture_of f.tok in
       let now = (gives cpu tokens front).tokens in
@@ -118,8 +111,8 @@ module _ (cpu : CpuId) (tokens : List Token) (sound : AreSoundTokens tokens) (re
   word_well : (front : List Ref) → refs ≡ front ++ (r ∷ rest) → miss_of tokens refs front r ≡ Some (Busy word) → may_be (gives cpu tokens front).tokens refs (record { word = word; at = length front }) ≡ true
   word_well front is missed =
       let f = miss_facts tokens refs front r word missed in
-      and_from (not (length front == 0) || first_refuses refs (record { word = word; at = length front }))
-      (is_old (gives cpu tokens front).tokens refs (record { word = word; at = length front })) (first_well front is f) (old_well front is f)
+      and_from (has_refused refs (record { word = word; at = length front }))
+      (is_old (gives cpu tokens front).tokens refs (record { word = word; at = length front })) (refused_well front is f) (old_well front is f)
 
 why_well : (cpu : CpuId) (tokens : List Token) (sound : AreSoundTokens tokens) (refs front : List Ref) (r : Ref) (rest : List Ref) → refs ≡ front ++ (r ∷ rest) → (why : Miss) → miss_of tokens refs front r ≡ Some why → IsWell (gives cpu tokens front).tokens refs (length front) why
 why_well cpu tokens sound refs front r rest is (Busy word) missed = word_well cpu tokens sound refs r rest word front is missed
@@ -189,19 +182,31 @@ first_ref : (refs : List Ref) (r : Ref) → slice_get refs 0 ≡ Some r → (res
 first_ref [] r at = absurd (none-some r at)
 first_ref (x ∷ xs) r at = (xs, ap (λ (y : Ref). y ∷ xs) (same_Some x r at))
 
+-- it refuses the reference at its place
+both_if : (a b : Bool) → (not a && b) ≡ true → (a ≡ false) × (b ≡ true)
+both_if true b is = absurd (false≢true is)
+both_if false b is = (refl, is)
+
+pub still_refuses : (tokens : List Token) (refs : List Ref) (b : BusyAt) → AreSoundTokens tokens → may_be tokens refs b ≡ true → (s : Still tokens refs b) → MissFacts tokens refs (take b.at refs) s.r b.word
+still_refuses tokens refs b sound may s =
+    let w = picture_of s.tok in
+    let refused : has_refused refs b ≡ true = (and_parts (has_refused refs b) (is_old tokens refs b) may).0 in
+    let own = both_if (names (take b.at refs) s.r.tok.0) (refuses (word_parts b.word) refs s.r b.word)
+    (sym (ap (λ (o : Option Ref). option_map_or (λ (q : Ref). not (names (take b.at refs) q.tok.0) && refuses (word_parts b.word) refs q b.word) o false) s.at) ∙ refused) in
+    let parts : word_parts b.word ≡ w = ap word_parts (sym s.is) ∙ parts_are w (word_fits tokens s.r.tok.0 s.tok sound s.there) in
+    record {
+      unnamed = own.0;
+      tok = s.tok;
+      at = s.there;
+      is = word_is (refusal w (decision w s.r.mode (is_alone refs s.r.tok.0))) b.word (sym (ap (λ (x : TokWord). refuses x refs s.r b.word) parts) ∙ own.1);
+    }
+
 pub still_misses : (cpu : CpuId) (tokens : List Token) (refs : List Ref) (b : BusyAt) → AreSoundTokens tokens → b.at ≡ 0 → is_still tokens refs b ≡ true → may_be tokens refs b ≡ true → resume cpu tokens refs ≡ tried tokens (Some (record { at = 0; why = Busy b.word }))
 still_misses cpu tokens refs b sound first is may =
     let s = still tokens refs b is in
-    let w = picture_of s.tok in
+    let f = still_refuses tokens refs b sound may s in
     let at : slice_get refs 0 ≡ Some s.r = ap (slice_get refs) (sym first) ∙ s.at in
-    let refused : first_refuses refs b ≡ true =
-    sym (ap (λ (a : Bool). not a || first_refuses refs b) (eq-eqb b.at 0 first)) ∙ (and_parts (not (b.at == 0) || first_refuses refs b) (is_old tokens refs b) may).0 in
-    let own : refuses (word_parts b.word) refs s.r b.word ≡ true =
-    sym (ap (λ (o : Option Ref). option_map_or (λ (q : Ref). refuses (word_parts b.word) refs q b.word) o true) at) ∙ refused in
-    let parts : word_parts b.word ≡ w = ap word_parts (sym s.is) ∙ parts_are w (word_fits tokens s.r.tok.0 s.tok sound s.there) in
-    let why : refusal w (decision w s.r.mode (is_alone refs s.r.tok.0)) ≡ Some (Busy b.word) =
-    word_is (refusal w (decision w s.r.mode (is_alone refs s.r.tok.0))) b.word (sym (ap (λ (x : TokWord). refuses x refs s.r b.word) parts) ∙ own) in
-    let missed : miss_of tokens refs [] s.r ≡ Some (Busy b.word) = miss_is tokens refs [] s.r s.tok s.there refl ∙ why in
+    let missed : miss_of tokens refs [] s.r ≡ Some (Busy b.word) = miss_is tokens refs [] s.r f.tok f.at refl ∙ f.is in
     let split = first_ref refs s.r at in
     ap (takes cpu refs tokens []) split.1
     ∙ takes_more cpu refs tokens [] s.r split.0

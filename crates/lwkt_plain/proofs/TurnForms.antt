@@ -69,12 +69,12 @@ pub record Ready (c k : ℕ) (p : Plain) : Type 0 where
   pub sound : IsSound p
   pub running : IsRunning p c k
 
-ready_by : (c k : ℕ) (p q : Plain) → c < length p.cpus → RunsNow c k p q → Ready c k q
+pub ready_by : (c k : ℕ) (p q : Plain) → c < length p.cpus → RunsNow c k p q → Ready c k q
 ready_by c k p q inside now =
     let same = now.cpus in
     record { inside = omega (arith, same, inside); there = now.there; sound = now.sound; running = now.running }
 
-ready_polled : (c k : ℕ) (program : Program) (p : Plain) → Ready c k p → Ready c k (with_thread (polled program) c k p)
+pub ready_polled : (c k : ℕ) (program : Program) (p : Plain) → Ready c k p → Ready c k (with_thread (polled program) c k p)
 ready_polled c k program p r =
     ready_by c k p (with_thread (polled program) c k p) r.inside (polled_runs c k program p (with_thread (polled program) c k p) r.inside r.there r.sound r.running refl)
 
@@ -209,7 +209,7 @@ opened_reached script limits lawful = record {
   cpus = length-map (below script.cpus) (opened_cpu script) ∙ length-range_with_len 0 script.cpus;
 }
 
-turn_reached : (script : Script) (c : ℕ) (p : Plain) → c < script.cpus → Reached script p → Reached script (turn script p c)
+pub turn_reached : (script : Script) (c : ℕ) (p : Plain) → c < script.cpus → Reached script p → Reached script (turn script p c)
 turn_reached script c p below_count r =
     let same = r.cpus in
     let inside : c < length p.cpus = omega (arith, same, below_count) in

@@ -1,4 +1,5 @@
 pub mod Faults
+pub mod Deadlocks
 pub mod Endings
 pub mod Forms
 pub mod Hashes
@@ -6,6 +7,7 @@ pub mod Intakes
 pub mod Letters
 pub mod Mailing
 pub mod Openings
+pub mod Others
 pub mod Places
 pub mod Shelves
 pub mod Sound

@@ -2,7 +2,7 @@
 use Rattle.std.specs.Prelude.{◌≡◌, ℕ, ◌<◌, ◌≤◌, List, length, All}
 use Rattle.lwkt_search.specs.Codes.{code_at, AreCodes}
 use Rattle.lwkt_plain.specs.declared.shelves.Shelf.{Shelf}
-use Rattle.lwkt_plain.specs.Tables.{named, IsTable, AreNamed}
+use Rattle.lwkt_plain.specs.Tables.{named, IsTable, AreNamed, AreFollowed}
 
 -- how many lists there are
 abbrev pub lists_in : {P : Type 0} → Shelf P → ℕ
@@ -29,11 +29,12 @@ pub record IsShelf {P : Type 0} (hash : P → ℕ) (s : Shelf P) (parts : List P
   pub numbers : s.numbers.items ≡ numbers_of s s.list
   pub names : AreNamed s.table.parts.items parts s.numbers.items
 
--- it may have other parts: as many
-pub record IsBaseShelf {P : Type 0} (hash : P → ℕ) (s : Shelf P) (parts : List P) : Type 0 where
+-- it may have other parts: as many, which may have become of its own what they are
+pub record IsBaseShelf {P : Type 0} (hash : P → ℕ) (follows : ℕ → P → P → Type 0) (s : Shelf P) (parts : List P) : Type 0 where
   pub lists : AreLists hash s
   pub numbers : s.numbers.items ≡ numbers_of s s.list
   pub count : length parts ≡ length s.numbers.items
+  pub follow : AreFollowed follows s.table.parts.items parts s.numbers.items
 
 -- each list of the old shelf is the one of its number in the new one
 pub record HasLists {P : Type 0} (old new : Shelf P) : Type 0 where

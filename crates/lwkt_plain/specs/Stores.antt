@@ -6,6 +6,7 @@ use Rattle.lwkt_plain.specs.declared.states.Plain.{Plain}
 use Rattle.lwkt_plain.specs.declared.stores.Store.{Store}
 use Rattle.lwkt_plain.specs.Forms.{form}
 use Rattle.lwkt_plain.specs.Hashes.{token_key, letter_key, mail_key, processor_key}
+use Rattle.lwkt_plain.specs.Others.{CpuFollows, LetterFollows, MailFollows, TokenFollows}
 use Rattle.lwkt_plain.specs.Shelves.{list_of, lists_in, IsShelf, IsBaseShelf}
 use Rattle.lwkt_plain.specs.Sound.{IsSound}
 use Rattle.lwkt_plain.specs.Turns.{turn}
@@ -54,12 +55,13 @@ pub record IsStore (s : Store) : Type 0 where
   pub cpus : IsShelf processor_key s.cpus s.work.cpus
   pub states : AreStates s
 
--- the same, where the state that is worked on may have other parts than those of its numbers: as many
-pub record IsBase (s : Store) : Type 0 where
-  pub tokens : IsBaseShelf token_key s.tokens s.work.tokens
-  pub letters : IsBaseShelf letter_key s.letters s.work.letters
-  pub mails : IsBaseShelf mail_key s.mails s.work.mails
-  pub cpus : IsBaseShelf processor_key s.cpus s.work.cpus
+-- the same, where the state that is worked on may have other parts than those of its numbers: as many, which may have become what they are
+-- by a turn of a processor
+pub record IsBase (c : ℕ) (s : Store) : Type 0 where
+  pub tokens : IsBaseShelf token_key (TokenFollows c) s.tokens s.work.tokens
+  pub letters : IsBaseShelf letter_key (LetterFollows c) s.letters s.work.letters
+  pub mails : IsBaseShelf mail_key (MailFollows c) s.mails s.work.mails
+  pub cpus : IsBaseShelf processor_key (CpuFollows c) s.cpus s.work.cpus
   pub states : AreStates s
   pub work : IsSound s.work
 

@@ -1,5 +1,5 @@
 -- Parts of one kind by their numbers.
-use Rattle.std.specs.Prelude.{◌≡◌, ℕ, ◌<◌, List, [], ◌∷◌, ◌++◌, length, slice_get, slice_index_or}
+use Rattle.std.specs.Prelude.{◌≡◌, ℕ, ◌<◌, List, [], ◌∷◌, ◌++◌, length, Some, slice_get, slice_index_or}
 use Rattle.std.specs.Option.{option_map_or}
 use Rattle.lwkt_search.specs.Indexes.{IsIndex}
 
@@ -32,3 +32,7 @@ named parts (n ∷ numbers) = option_map_or (λ p. p ∷ named parts numbers) (s
 pub record AreNamed {P : Type 0} (table parts : List P) (numbers : List ℕ) : Type 0 where
   pub long : length parts ≡ length numbers
   pub each : (k : ℕ) → k < length numbers → (d : P) → IsNamed table (slice_index_or numbers k 0) (slice_index_or parts k d)
+
+-- each part may have become what it is of the one of its number, by its place
+pub record AreFollowed {P : Type 0} (follows : ℕ → P → P → Type 0) (table parts : List P) (numbers : List ℕ) : Type 0 where
+  pub each : (k : ℕ) → k < length numbers → (old new : P) → slice_get table (slice_index_or numbers k 0) ≡ Some old → slice_get parts k ≡ Some new → follows k old new

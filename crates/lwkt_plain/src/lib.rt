@@ -3,9 +3,11 @@
 //! script's turns.
 //!
 //! Words: a *letter* is a message with its word, its record, and in whose hands it is; a thread's *busy* word is the one that refused
-//! its list last; a *form* is a state in which only such words are kept as can refuse a list again.
+//! its list last; a *form* is a state in which only such words are kept as can refuse a list again; a *standstill* is a state that turns lead
+//! to, and that none changes.
 #![tactic(auto)]
 
+mod deadlocks;
 mod endings;
 pub mod forms;
 mod hashes;
@@ -28,6 +30,7 @@ mod token_asks;
 pub mod tokens;
 mod turns;
 
+pub use deadlocks::standstills_are_waits;
 pub use items::Items;
 pub use letters::{Hands, Lane, Letter, Note, NoteKind, Port};
 pub use nexts::{Miss, Missed, Next};

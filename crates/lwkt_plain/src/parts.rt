@@ -1,6 +1,7 @@
 //! Whether two parts of states are the same.
-ghost use Rattle.std.specs.Prelude.{◌≡◌, ◌↔◌, ℕ, IsTrue, IfOk, length};
+ghost use Rattle.std.specs.Prelude.{◌≡◌, ◌↔◌, ℕ, IsTrue, IfOk, length, map};
 ghost use Rattle.lwkt_plain.specs.Faults.{carried};
+ghost use Rattle.lwkt_plain.specs.Others.{wordless_thread, mail_but, CpuFollows, LetterFollows, MailFollows, TokenFollows};
 ghost use Rattle.lwkt_plain.specs.Hashes.{letter_key, mail_key, processor_key, token_key};
 
 use crate::hashes::{letter_key, mail_key, processor_key, token_key};
@@ -25,6 +26,9 @@ pub trait Same {
 pub trait Part: Drop {
     ghost hash_of: { Self → ℕ };
 
+    /// What may have become of a part by a turn of a processor, by its place among the parts of its kind.
+    ghost follows: { ℕ → ℕ → Self → Self → Type 0 };
+
     /// A number by which it is found again: the fewer parts share one, the faster.
     fn hash(&self) -> u64
         ensures { result ≡ hash_of self.now };
@@ -32,6 +36,11 @@ pub trait Part: Drop {
     /// Whether the other is the same part.
     fn is_same(&self, other: &Self) -> bool
         ensures { IsTrue result ↔ (self.now ≡ other.now) };
+
+    /// Whether a part is what it was before a turn of a processor.
+    fn is_still(&self, old: &Self, cpu: usize, place: usize) -> bool
+        requires { follows cpu place old.now self.now }
+        ensures { IsTrue result ↔ (self.now ≡ old.now) };
 
     /// The same part, in memory of its own.
     fn copied(&self, alloc: Global) -> Result<Self, OutOfMemory>
@@ -383,6 +392,42 @@ fn same_processor(one: &Processor, other: &Processor) -> bool
         && one.cursor == other.cursor
 }
 
+// Whether two mails are the same that are so but for the lane from a processor.
+fn same_from(one: &Mail, other: &Mail, cpu: usize) -> bool
+    requires { mail_but cpu one.now ≡ mail_but cpu other.now }
+    ensures { IsTrue result ↔ (one.now ≡ other.now) }
+{
+    let lanes = (
+        one.lanes.as_slice().get(cpu),
+        other.lanes.as_slice().get(cpu),
+    );
+    match lanes {
+        (Some(lane), Some(another)) => same_lane(lane, another),
+        _ => true,
+    }
+}
+
+// Whether two threads are the same that are so but for the words that refused their lists.
+fn same_word_of(one: &Thread, other: &Thread) -> bool
+    requires { wordless_thread one.now ≡ wordless_thread other.now }
+    ensures { IsTrue result ↔ (one.now ≡ other.now) }
+{
+    same_busy(&one.busy, &other.busy)
+}
+
+// The same of the threads of two processors.
+fn same_words(threads: &[Thread], other: &[Thread]) -> bool
+    requires { map wordless_thread threads.now ≡ map wordless_thread other.now }
+    ensures { IsTrue result ↔ (threads.now ≡ other.now) }
+{
+    for k in 0..threads.len() {
+        if !same_word_of(&threads[k], &other[k]) {
+            return false;
+        }
+    }
+    true
+}
+
 impl Copied for Note {
     fn copied(&self, _alloc: Global) -> Result<Note, OutOfMemory> {
         Ok(*self)
@@ -491,12 +536,18 @@ impl Copied for Plain {
 impl Part for Token {
     ghost hash_of = { token_key };
 
+    ghost follows = { TokenFollows };
+
     fn hash(&self) -> u64 {
         token_key(self)
     }
 
     fn is_same(&self, other: &Token) -> bool {
         Same::is_same(self, other)
+    }
+
+    fn is_still(&self, old: &Token, _cpu: usize, _place: usize) -> bool {
+        Same::is_same(self, old)
     }
 
     fn copied(&self, alloc: Global) -> Result<Token, OutOfMemory> {
@@ -507,12 +558,18 @@ impl Part for Token {
 impl Part for Letter {
     ghost hash_of = { letter_key };
 
+    ghost follows = { LetterFollows };
+
     fn hash(&self) -> u64 {
         letter_key(self)
     }
 
     fn is_same(&self, other: &Letter) -> bool {
         Same::is_same(self, other)
+    }
+
+    fn is_still(&self, old: &Letter, _cpu: usize, _place: usize) -> bool {
+        Same::is_same(self, old)
     }
 
     fn copied(&self, alloc: Global) -> Result<Letter, OutOfMemory> {
@@ -523,12 +580,21 @@ impl Part for Letter {
 impl Part for Mail {
     ghost hash_of = { mail_key };
 
+    ghost follows = { MailFollows };
+
     fn hash(&self) -> u64 {
         mail_key(self)
     }
 
     fn is_same(&self, other: &Mail) -> bool {
         Same::is_same(self, other)
+    }
+
+    fn is_still(&self, old: &Mail, cpu: usize, place: usize) -> bool {
+        if place == cpu {
+            return Same::is_same(self, old);
+        }
+        same_from(self, old, cpu)
     }
 
     fn copied(&self, alloc: Global) -> Result<Mail, OutOfMemory> {
@@ -539,12 +605,21 @@ impl Part for Mail {
 impl Part for Processor {
     ghost hash_of = { processor_key };
 
+    ghost follows = { CpuFollows };
+
     fn hash(&self) -> u64 {
         processor_key(self)
     }
 
     fn is_same(&self, other: &Processor) -> bool {
         Same::is_same(self, other)
+    }
+
+    fn is_still(&self, old: &Processor, cpu: usize, place: usize) -> bool {
+        if place == cpu {
+            return Same::is_same(self, old);
+        }
+        same_words(self.threads.as_slice(), old.threads.as_slice())
     }
 
     fn copied(&self, alloc: Global) -> Result<Processor, OutOfMemory> {

@@ -1,6 +1,6 @@
 //! Lists of parts of one kind, each kept once.
 ghost use Rattle.std.specs.Prelude.{◌≡◌, ◌<◌, ◌≤◌, length, All, IfOk, Some, slice_get, slice_set};
-ghost use Rattle.lwkt_plain.specs.Tables.{IsTable, Extends, IsNamed, AreNamed};
+ghost use Rattle.lwkt_plain.specs.Tables.{IsTable, Extends, IsNamed, AreNamed, AreFollowed};
 ghost use Rattle.lwkt_plain.specs.Shelves.{list_of, lists_in, numbers_of, AreLists, IsShelf, IsBaseShelf, HasLists};
 
 use crate::items::Items;
@@ -66,32 +66,37 @@ fn load<P: Part>(
     Ok(())
 }
 
-// The number of a part that may have been the one of a number.
+// The number of a part that may have become what it is, by a turn of a processor, of the one of a number.
 fn number_of<P: Part>(
     alloc: Global,
     table: &mut Table<P>,
     part: &P,
     number: u32,
+    cpu: usize,
+    place: usize,
 ) -> Result<u32, Refusal>
+    requires follows { (old : P) → slice_get table.old.parts.items number ≡ Some old → P.follows cpu place old part.now }
     requires known { number < length table.old.parts.items }
     requires table { IsTable P.hash_of table.old.parts.items table.old.index.heads.items table.old.index.links.items }
     ensures table { IfOk result (λ n. IsTable P.hash_of table.new.parts.items table.new.index.heads.items table.new.index.links.items) }
     ensures more { IfOk result (λ n. Extends table.old.parts.items table.new.parts.items) }
     ensures named { IfOk result (λ n. IsNamed table.new.parts.items n part.now) }
 {
-    if table.is_at(number, part) {
+    if table.is_still(number, part, cpu, place) {
         return Ok(number);
     }
     table.number(alloc, part)
 }
 
-// Makes numbers those of these parts, where they may have others.
+// Makes numbers those of these parts, which may have become what they are, by a turn of a processor, of those of the numbers.
 fn renumber<P: Part>(
     alloc: Global,
     table: &mut Table<P>,
     parts: &Items<P>,
     numbers: &mut Vec<u32>,
+    cpu: usize,
 ) -> Result<(), Refusal>
+    requires follow { AreFollowed (P.follows cpu) table.old.parts.items parts.now numbers.old.items }
     requires long { length parts.now ≡ length numbers.old.items }
     requires known { All (λ n. n < length table.old.parts.items) numbers.old.items }
     requires table { IsTable P.hash_of table.old.parts.items table.old.index.heads.items table.old.index.links.items }
@@ -100,7 +105,7 @@ fn renumber<P: Part>(
     ensures named { IfOk result (λ done. AreNamed table.new.parts.items parts.now numbers.new.items) }
 {
     for k in 0..numbers.len() {
-        let number = number_of(alloc, table, parts.part(k), numbers[k])?;
+        let number = number_of(alloc, table, parts.part(k), numbers[k], cpu, k)?;
         numbers[k] = number;
     }
     Ok(())
@@ -198,15 +203,20 @@ impl<P: Part> Shelf<P> {
         Ok(())
     }
 
-    /// Makes the list that is worked on the one of these parts.
+    /// Makes the list that is worked on the one of these parts, which may have become what they are by a turn of a processor.
     ///
     /// Refused if memory is, or if there is no number left.
-    pub(crate) fn renumber(&mut self, alloc: Global, parts: &Items<P>) -> Result<(), Refusal>
-        requires { IsBaseShelf P.hash_of self.old parts.now }
+    pub(crate) fn renumber(
+        &mut self,
+        alloc: Global,
+        parts: &Items<P>,
+        cpu: usize,
+    ) -> Result<(), Refusal>
+        requires { IsBaseShelf P.hash_of (P.follows cpu) self.old parts.now }
         ensures shelf { IfOk result (λ done. IsShelf P.hash_of self.new parts.now) }
         ensures lists { IfOk result (λ done. HasLists self.old self.new) }
     {
-        renumber(alloc, &mut self.table, parts, &mut self.numbers)?;
+        renumber(alloc, &mut self.table, parts, &mut self.numbers, cpu)?;
         self.keep(alloc)?;
         Ok(())
     }

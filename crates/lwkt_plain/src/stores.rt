@@ -83,17 +83,17 @@ impl Store {
         Ok(())
     }
 
-    // Numbers the parts of the state that is worked on.
-    fn renumber(&mut self) -> Result<(), Refusal>
-        requires base { IsBase self.old }
+    // Numbers the parts of the state that is worked on, to which a turn of a processor led.
+    fn renumber(&mut self, cpu: usize) -> Result<(), Refusal>
+        requires base { IsBase cpu self.old }
         ensures store { IfOk result (λ done. IsStore self.new) }
         ensures kept { IfOk result (λ done. kept self.new ≡ kept self.old) }
         ensures work { IfOk result (λ done. self.new.work ≡ self.old.work) }
     {
-        self.tokens.renumber(self.alloc, &self.work.tokens)?;
-        self.letters.renumber(self.alloc, &self.work.letters)?;
-        self.mails.renumber(self.alloc, &self.work.mails)?;
-        self.cpus.renumber(self.alloc, &self.work.cpus)?;
+        self.tokens.renumber(self.alloc, &self.work.tokens, cpu)?;
+        self.letters.renumber(self.alloc, &self.work.letters, cpu)?;
+        self.mails.renumber(self.alloc, &self.work.mails, cpu)?;
+        self.cpus.renumber(self.alloc, &self.work.cpus, cpu)?;
         Ok(())
     }
 
@@ -133,7 +133,7 @@ impl Store {
         requires store { IsStore self.old }
         requires sound { IsSound self.old.work }
         requires here { cpu < length self.old.work.cpus }
-        ensures base { IfOk result (λ done. IsBase self.new) }
+        ensures base { IfOk result (λ done. IsBase cpu self.new) }
         ensures work { IfOk result (λ done. self.new.work ≡ form (turn script.now self.old.work cpu)) }
         ensures kept { IfOk result (λ done. kept self.new ≡ kept self.old) }
     {
@@ -161,7 +161,7 @@ impl Store {
             return Ok(at);
         }
         self.make_turn(script, usize::from(cpu))?;
-        self.renumber()?;
+        self.renumber(usize::from(cpu))?;
         let number = self.keep()?;
         Ok(number)
     }

@@ -1,5 +1,5 @@
 //! Parts of one kind, each kept once.
-ghost use Rattle.std.specs.Prelude.{◌≡◌, ◌↔◌, ◌<◌, ◌≤◌, ◌++◌, ◌∷◌, [], length, All, HoldsAt, IsTrue, IfOk, MatchOption};
+ghost use Rattle.std.specs.Prelude.{◌≡◌, ◌↔◌, ◌<◌, ◌≤◌, ◌++◌, ◌∷◌, [], length, All, HoldsAt, IsTrue, IfOk, MatchOption, Some, slice_get};
 ghost use Rattle.lwkt_search.specs.Indexes.{IsIndex};
 ghost use Rattle.lwkt_plain.specs.Tables.{key_at, IsTable, Extends, IsNamed};
 
@@ -37,12 +37,13 @@ impl<P: Part> Table<P> {
         &self.parts[number as usize]
     }
 
-    /// Whether the part of a number is this one.
-    pub fn is_at(&self, number: u32, part: &P) -> bool
-        requires { number < length self.now.parts.items }
+    /// Whether a part is still the one of a number, of which it may have become what it is by a turn of a processor.
+    pub fn is_still(&self, number: u32, part: &P, cpu: usize, place: usize) -> bool
+        requires there { number < length self.now.parts.items }
+        requires follows { (old : P) → slice_get self.now.parts.items number ≡ Some old → P.follows cpu place old part.now }
         ensures { IsTrue result ↔ IsNamed self.now.parts.items number part.now }
     {
-        self.part(number).is_same(part)
+        part.is_still(self.part(number), cpu, place)
     }
 
     // The number of a part with this key, if it is there.

@@ -1,7 +1,9 @@
-use crate::SeatFault;
+use crate::waits::Whole;
+use crate::{Guarded, SeatFault};
 use std::error::Error;
 use std::ffi::c_void;
 use std::fmt;
+use std::sync::Arc;
 
 /// A bank, as `lwkt_bank` of include/lwkt.h.
 #[repr(C)]
@@ -183,6 +185,16 @@ impl fmt::Display for Missed {
 
 impl Error for Missed {}
 
+// Asks again where another seat's step came between.
+fn unraced<T>(ask: impl Fn() -> Result<T, SeatFault>) -> Result<T, SeatFault> {
+    loop {
+        match ask() {
+            Err(SeatFault::Race) => std::hint::spin_loop(),
+            answer => return answer,
+        }
+    }
+}
+
 fn done(status: u32) -> Result<(), SeatFault> {
     if status == 0 {
         Ok(())
@@ -203,7 +215,7 @@ fn done(status: u32) -> Result<(), SeatFault> {
 ///     for seat in bank.seats() {
 ///         scope.spawn(move || {
 ///             for _ in 0..1000 {
-///                 let mut held = seat.take_waiting(0).unwrap();
+///                 let held = seat.take_waiting(0).unwrap();
 ///                 held.add(1).unwrap();
 ///             }
 ///         });
@@ -221,6 +233,9 @@ pub struct Bank {
     // In order, one at least.
     seats: Vec<Seat>,
 }
+
+// SAFETY: a bank that is shared lends no seat.
+unsafe impl Sync for Bank {}
 
 /// Why a bank wasn't closed, and the bank.
 #[derive(Debug)]
@@ -249,18 +264,31 @@ impl Bank {
             place: std::ptr::null_mut(),
         };
         done(unsafe { lwkt_bank_open(tokens.as_ptr(), tokens.len(), seats, &mut handle) })?;
-        let whole = Whole {
-            tokens: tokens.len(),
-            seats: seats as usize,
+        let whole = Arc::new(Whole::new(tokens.len(), seats as usize));
+        let seat = |number| Seat {
+            handle,
+            number,
+            whole: Arc::clone(&whole),
         };
         Ok(Bank {
-            seats: (0..seats).map(|number| Seat { handle, number, whole }).collect(),
+            seats: (0..seats).map(seat).collect(),
         })
     }
 
     /// The seats, each to be lent to one thread.
     pub fn seats(&mut self) -> &mut [Seat] {
         &mut self.seats
+    }
+
+    /// A value that a token of this bank guards: see [`Guarded`].
+    ///
+    /// Refused with 16 where there is no such token.
+    pub fn guard<T>(&self, token: u32, value: T) -> Result<Guarded<T>, SeatFault> {
+        let Seat { handle, whole, .. } = &self.seats[0];
+        if token as usize >= whole.tokens {
+            return Err(SeatFault::NoToken);
+        }
+        Ok(Guarded::new(handle.place as usize, token, value))
     }
 
     /// The seats, each for one thread.
@@ -303,7 +331,7 @@ impl Bank {
     ///
     /// let note = Token::new(&[], RowLaw::Any, 0).with_record(b"abc");
     /// let mut bank = Bank::open(&[note], 1)?;
-    /// let mut held = bank.seats()[0].take(0)?;
+    /// let held = bank.seats()[0].take(0)?;
     /// held.write_record(b"hello")?;
     /// std::mem::forget(held);
     /// let refused = bank.close().unwrap_err();
@@ -323,8 +351,8 @@ impl Bank {
 
     // Closes the bank and frees it: then it has no seats.
     fn end(&mut self) -> Result<Vec<StoredClosing>, SeatFault> {
-        let Seat { mut handle, whole, .. } = self.seats[0];
-        let mut closings = vec![UNTOLD; whole.tokens];
+        let mut handle = self.seats[0].handle;
+        let mut closings = vec![UNTOLD; self.seats[0].whole.tokens];
         done(unsafe { lwkt_bank_close(handle, closings.as_mut_ptr(), closings.len()) })?;
         self.seats.clear();
         // No seat is left that has the handle.
@@ -344,25 +372,15 @@ impl Drop for Bank {
     }
 }
 
-// How many tokens and seats a bank has.
-#[derive(Clone, Copy)]
-struct Whole {
-    tokens: usize,
-    seats: usize,
-}
-
 /// A seat at a bank. It may go to another thread, and is used by one at a time.
 pub struct Seat {
     handle: Handle,
     number: u32,
-    whole: Whole,
+    whole: Arc<Whole>,
 }
 
-// SAFETY: a seat's calls are those of the library, which any thread may make.
+// SAFETY: a seat's calls are those of the library, which any thread may make. No `Sync`: threads that share a seat hold its tokens together.
 unsafe impl Send for Seat {}
-
-// SAFETY: each call takes the seat as `&mut`, so that a seat that is shared makes none.
-unsafe impl Sync for Seat {}
 
 impl fmt::Debug for Seat {
     fn fmt(&self, out: &mut fmt::Formatter<'_>) -> fmt::Result {
@@ -379,7 +397,7 @@ impl Seat {
     /// let mut seats = Bank::open(&[Token::new(&[40, 60], RowLaw::Sum, 100)], 2)?.into_seats();
     /// let mut other = seats.pop().unwrap();
     /// let mut seat = seats.pop().unwrap();
-    /// let mut held = seat.take(0)?;
+    /// let held = seat.take(0)?;
     /// assert_eq!(other.take(0).unwrap_err(), SeatFault::Busy);
     /// held.store(0, 30)?;
     /// assert!(!held.is_lawful()?);
@@ -388,24 +406,23 @@ impl Seat {
     /// assert_eq!(other.share(0)?.load(1)?, 70);
     /// # Ok::<(), SeatFault>(())
     /// ```
-    pub fn take(&mut self, token: u32) -> Result<Held<'_>, SeatFault> {
+    pub fn take(&self, token: u32) -> Result<Held<'_>, SeatFault> {
         done(unsafe { lwkt_take(self.handle, self.number, token) })?;
         Ok(Held { seat: self, token })
     }
 
-    /// Takes a token exclusively, yielding while another seat has it.
-    pub fn take_waiting(&mut self, token: u32) -> Result<Held<'_>, SeatFault> {
-        loop {
-            match done(unsafe { lwkt_take(self.handle, self.number, token) }) {
-                Ok(()) => return Ok(Held { seat: self, token }),
-                Err(fault) if fault.is_busy() => std::thread::yield_now(),
-                Err(fault) => return Err(fault),
-            }
-        }
+    /// Takes a token exclusively, and sleeps while another seat has it. Who comes first gets it, also before those that wait.
+    pub fn take_waiting(&self, token: u32) -> Result<Held<'_>, SeatFault> {
+        self.whole.wait(token, false, || unraced(|| self.take(token)))
+    }
+
+    /// Takes a token shared, and sleeps while another seat has it exclusively, or its mark holds the request off.
+    pub fn share_waiting(&self, token: u32) -> Result<Held<'_>, SeatFault> {
+        self.whole.wait(token, true, || unraced(|| self.share(token)))
     }
 
     /// Takes a token shared, without waiting.
-    pub fn share(&mut self, token: u32) -> Result<Held<'_>, SeatFault> {
+    pub fn share(&self, token: u32) -> Result<Held<'_>, SeatFault> {
         done(unsafe { lwkt_share(self.handle, self.number, token) })?;
         Ok(Held { seat: self, token })
     }
@@ -429,10 +446,37 @@ impl Seat {
     /// # Ok::<(), Missed>(())
     /// ```
     pub fn resume(&mut self, list: &[Reference]) -> Result<Resumed<'_>, Missed> {
+        self.hold(list)?;
+        Ok(Resumed { seat: self })
+    }
+
+    /// The same, and sleeps while a token is missed. Nothing is held meanwhile, so lists don't wait for each other for ever.
+    pub fn resume_waiting(&mut self, list: &[Reference]) -> Result<Resumed<'_>, Missed> {
+        let mut held = self.hold(list);
+        while let Err(Missed { place, fault }) = held {
+            if !fault.is_busy() {
+                return Err(Missed { place, fault });
+            }
+            let token = list[place].token;
+            // It goes on when the list is held, or another token is missed.
+            let waited = self.whole.wait(token, true, || match self.hold(list) {
+                Err(missed) if missed.fault.is_busy() && list[missed.place].token == token => Err(SeatFault::Busy),
+                answer => Ok(answer),
+            });
+            held = waited.unwrap_or(held);
+        }
+        Ok(Resumed { seat: self })
+    }
+
+    // Takes a list, which then is held.
+    fn hold(&self, list: &[Reference]) -> Result<(), Missed> {
         let mut place = 0;
         let status = unsafe { lwkt_resume(self.handle, self.number, list.as_ptr(), list.len(), &mut place) };
-        done(status).map_err(|fault| Missed { place, fault })?;
-        Ok(Resumed { seat: self })
+        if matches!(status, 20 | 23 | 34) {
+            // Those in front of the one that was missed were held for a while.
+            list[..place].iter().for_each(|reference| self.whole.wake(reference.token));
+        }
+        done(status).map_err(|fault| Missed { place, fault })
     }
 
     /// Gives up all that the seat holds, as references that were forgotten; answers the first token whose row and record broke the law,
@@ -440,38 +484,66 @@ impl Seat {
     pub fn block(&mut self) -> Option<u32> {
         let mut restored = 0;
         let status = unsafe { lwkt_block(self.handle, self.number, &mut restored) };
+        self.whole.wake_all();
         (status == 19).then_some(restored)
     }
 
     /// Marks a token for an exclusive request.
-    pub fn mark(&mut self, token: u32) -> Result<(), SeatFault> {
+    pub fn mark(&self, token: u32) -> Result<(), SeatFault> {
         done(unsafe { lwkt_mark(self.handle, self.number, token) })
+    }
+
+    /// The address of its bank's, another one for each bank that is open.
+    pub(crate) fn place(&self) -> usize {
+        self.handle.place as usize
     }
 }
 
 /// A reference to a token, given back when it is dropped. A row that breaks its law, with its record, is then the section's first
-/// one again, and so is the record.
+/// one again, and so is the record. Several may live at once, and end in any order:
+///
+/// ```
+/// use lwkt::{Bank, RowLaw, SeatFault, Token};
+///
+/// let tokens = [Token::new(&[1], RowLaw::Any, 0), Token::new(&[2], RowLaw::Any, 0)];
+/// let mut bank = Bank::open(&tokens, 1)?;
+/// let seat = &bank.seats()[0];
+/// let outer = seat.take(0)?;
+/// let inner = seat.take(1)?;
+/// inner.store(0, outer.load(0)? + 6)?;
+/// drop(outer);
+/// assert_eq!(inner.load(0), Ok(7));
+/// # Ok::<(), SeatFault>(())
+/// ```
+///
+/// It stays with the thread that has the seat.
+///
+/// ```compile_fail
+/// let mut bank = lwkt::Bank::open(&[lwkt::Token::new(&[1], lwkt::RowLaw::Any, 0)], 1).unwrap();
+/// let held = bank.seats()[0].take(0).unwrap();
+/// std::thread::scope(|scope| scope.spawn(|| held.load(0)));
+/// ```
 #[derive(Debug)]
 pub struct Held<'a> {
-    seat: &'a mut Seat,
+    seat: &'a Seat,
     token: u32,
 }
 
-impl Held<'_> {
+impl<'a> Held<'a> {
     /// The value of a cell.
-    pub fn load(&mut self, cell: u32) -> Result<u64, SeatFault> {
+    pub fn load(&self, cell: u32) -> Result<u64, SeatFault> {
         let mut value = 0;
         done(unsafe { lwkt_load(self.seat.handle, self.seat.number, self.token, cell, &mut value) })?;
         Ok(value)
     }
 
     /// Stores a value in a cell.
-    pub fn store(&mut self, cell: u32, value: u64) -> Result<(), SeatFault> {
+    pub fn store(&self, cell: u32, value: u64) -> Result<(), SeatFault> {
         done(unsafe { lwkt_store(self.seat.handle, self.seat.number, self.token, cell, value) })
     }
 
     /// Adds to the cell of a tally, and answers the new value.
-    pub fn add(&mut self, amount: u64) -> Result<u64, SeatFault> {
+    pub fn add(&self, amount: u64) -> Result<u64, SeatFault> {
         let mut value = 0;
         done(unsafe { lwkt_add(self.seat.handle, self.seat.number, self.token, amount, &mut value) })?;
         Ok(value)
@@ -483,7 +555,7 @@ impl Held<'_> {
     /// use lwkt::{Bank, RowLaw, SeatFault, Token};
     ///
     /// let mut seats = Bank::open(&[Token::new(&[3], RowLaw::Len, 0).with_record(b"abc")], 1)?.into_seats();
-    /// let mut held = seats[0].take(0)?;
+    /// let held = seats[0].take(0)?;
     /// held.write_record(b"hello")?;
     /// assert_eq!(held.read_record()?, b"hello");
     /// assert!(!held.is_lawful()?);
@@ -491,7 +563,7 @@ impl Held<'_> {
     /// held.give()?;
     /// # Ok::<(), SeatFault>(())
     /// ```
-    pub fn read_record(&mut self) -> Result<Vec<u8>, SeatFault> {
+    pub fn read_record(&self) -> Result<Vec<u8>, SeatFault> {
         let mut bytes = [0; RECORD_ROOM];
         let mut length = 0;
         let (handle, number) = (self.seat.handle, self.seat.number);
@@ -500,13 +572,13 @@ impl Held<'_> {
     }
 
     /// Writes the record.
-    pub fn write_record(&mut self, bytes: &[u8]) -> Result<(), SeatFault> {
+    pub fn write_record(&self, bytes: &[u8]) -> Result<(), SeatFault> {
         let (handle, number) = (self.seat.handle, self.seat.number);
         done(unsafe { lwkt_write_record(handle, number, self.token, bytes.as_ptr(), bytes.len()) })
     }
 
     /// Whether row and record obey the law.
-    pub fn is_lawful(&mut self) -> Result<bool, SeatFault> {
+    pub fn is_lawful(&self) -> Result<bool, SeatFault> {
         match unsafe { lwkt_lawful(self.seat.handle, self.seat.number, self.token) } {
             19 => Ok(false),
             status => done(status).map(|()| true),
@@ -514,43 +586,45 @@ impl Held<'_> {
     }
 
     /// Makes row and record the section's first ones again.
-    pub fn restore(&mut self) -> Result<(), SeatFault> {
+    pub fn restore(&self) -> Result<(), SeatFault> {
         done(unsafe { lwkt_restore(self.seat.handle, self.seat.number, self.token) })
     }
 
     /// Another reference to the same token.
-    pub fn again(&mut self) -> Result<Held<'_>, SeatFault> {
+    pub fn again(&self) -> Result<Held<'a>, SeatFault> {
         done(unsafe { lwkt_again(self.seat.handle, self.seat.number, self.token) })?;
         Ok(Held {
-            seat: &mut *self.seat,
+            seat: self.seat,
             token: self.token,
         })
     }
 
     /// A further token, taken exclusively while this one is held.
-    pub fn take(&mut self, token: u32) -> Result<Held<'_>, SeatFault> {
+    pub fn take(&self, token: u32) -> Result<Held<'a>, SeatFault> {
         self.seat.take(token)
     }
 
     /// A further token, taken shared while this one is held.
-    pub fn share(&mut self, token: u32) -> Result<Held<'_>, SeatFault> {
+    pub fn share(&self, token: u32) -> Result<Held<'a>, SeatFault> {
         self.seat.share(token)
     }
 
     /// Gives the reference back. Refused with 19 where row and record break the law: they are then the first ones again, and the
     /// reference is given back.
-    pub fn give(mut self) -> Result<(), SeatFault> {
+    pub fn give(self) -> Result<(), SeatFault> {
         let given = self.give_or_restore();
         std::mem::forget(self);
         given
     }
 
-    fn give_or_restore(&mut self) -> Result<(), SeatFault> {
-        let given = done(unsafe { lwkt_give(self.seat.handle, self.seat.number, self.token) });
+    fn give_or_restore(&self) -> Result<(), SeatFault> {
+        let give = || done(unsafe { lwkt_give(self.seat.handle, self.seat.number, self.token) });
+        let given = give();
         if given == Err(SeatFault::Broken) {
             self.restore()?;
-            done(unsafe { lwkt_give(self.seat.handle, self.seat.number, self.token) })?;
+            give()?;
         }
+        self.seat.whole.wake(self.token);
         given
     }
 }
@@ -563,42 +637,45 @@ pub struct Resumed<'a> {
 }
 
 impl Resumed<'_> {
+    pub(crate) fn seat(&self) -> &Seat {
+        self.seat
+    }
+
     // A reference to a token of the list, which the list gives up.
-    fn held<T>(&mut self, token: u32, call: impl FnOnce(&mut Held<'_>) -> T) -> T {
-        let mut held = std::mem::ManuallyDrop::new(Held {
-            seat: &mut *self.seat,
+    fn held<T>(&self, token: u32, call: impl FnOnce(&Held<'_>) -> T) -> T {
+        call(&std::mem::ManuallyDrop::new(Held {
+            seat: &*self.seat,
             token,
-        });
-        call(&mut held)
+        }))
     }
 
     /// The value of a cell.
-    pub fn load(&mut self, token: u32, cell: u32) -> Result<u64, SeatFault> {
+    pub fn load(&self, token: u32, cell: u32) -> Result<u64, SeatFault> {
         self.held(token, |held| held.load(cell))
     }
 
     /// Stores a value in a cell.
-    pub fn store(&mut self, token: u32, cell: u32, value: u64) -> Result<(), SeatFault> {
+    pub fn store(&self, token: u32, cell: u32, value: u64) -> Result<(), SeatFault> {
         self.held(token, |held| held.store(cell, value))
     }
 
     /// Adds to the cell of a tally, and answers the new value.
-    pub fn add(&mut self, token: u32, amount: u64) -> Result<u64, SeatFault> {
+    pub fn add(&self, token: u32, amount: u64) -> Result<u64, SeatFault> {
         self.held(token, |held| held.add(amount))
     }
 
     /// The record of a token.
-    pub fn read_record(&mut self, token: u32) -> Result<Vec<u8>, SeatFault> {
+    pub fn read_record(&self, token: u32) -> Result<Vec<u8>, SeatFault> {
         self.held(token, |held| held.read_record())
     }
 
     /// Writes the record of a token.
-    pub fn write_record(&mut self, token: u32, bytes: &[u8]) -> Result<(), SeatFault> {
+    pub fn write_record(&self, token: u32, bytes: &[u8]) -> Result<(), SeatFault> {
         self.held(token, |held| held.write_record(bytes))
     }
 
     /// Whether row and record of a token obey the law.
-    pub fn is_lawful(&mut self, token: u32) -> Result<bool, SeatFault> {
+    pub fn is_lawful(&self, token: u32) -> Result<bool, SeatFault> {
         self.held(token, |held| held.is_lawful())
     }
 

@@ -1,4 +1,5 @@
 use std::error::Error;
+use std::ffi::{c_char, CStr};
 use std::fmt;
 
 /// What came of a call, as `lwkt_answer` of include/lwkt.h.
@@ -12,6 +13,7 @@ struct Answer {
 
 // As include/lwkt.h declares them.
 extern "C" {
+    fn lwkt_version() -> *const c_char;
     fn lwkt_run_turns(script: *const u8, script_length: usize, text: *mut u8, room: usize, answer: *mut Answer) -> u32;
     fn lwkt_check_trace(trace: *const u8, trace_length: usize, text: *mut u8, room: usize, answer: *mut Answer) -> u32;
     fn lwkt_show_turns(
@@ -35,6 +37,17 @@ extern "C" {
         room: usize,
         answer: *mut Answer,
     ) -> u32;
+}
+
+/// The version of the library.
+///
+/// ```
+/// assert_eq!(lwkt::version(), env!("CARGO_PKG_VERSION"));
+/// ```
+pub fn version() -> &'static str {
+    // SAFETY: the text is there for good, and ended by a 0 byte.
+    let text = unsafe { CStr::from_ptr(lwkt_version()) };
+    text.to_str().unwrap_or("")
 }
 
 /// How a run ended.
@@ -371,7 +384,17 @@ pub struct Orders {
 pub fn explore_orders(script: &[u8], states: usize, turns: usize) -> Result<Orders, Refusal> {
     let (status, answer, text) = called(|text, answer| {
         // SAFETY: as in `run_turns`.
-        unsafe { lwkt_explore_orders(script.as_ptr(), script.len(), states, turns, text.as_mut_ptr(), text.len(), answer) }
+        unsafe {
+            lwkt_explore_orders(
+                script.as_ptr(),
+                script.len(),
+                states,
+                turns,
+                text.as_mut_ptr(),
+                text.len(),
+                answer,
+            )
+        }
     })?;
     let tried = match status {
         0 => Tried::AllEnd,

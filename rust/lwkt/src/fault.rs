@@ -4,7 +4,8 @@ use std::fmt;
 // The faults of calls on a bank and its seats: number, name and words of each, once.
 macro_rules! seat_faults {
     ($($number:literal $name:ident $words:literal)*) => {
-        /// Why a call on a bank or on a seat was refused. Each fault has its number in include/lwkt.h.
+        /// Why a call on a bank or on a seat was refused. Each fault has its number in include/lwkt.h, but for the last two, which are
+        /// this crate's.
         #[derive(Clone, Copy, Debug, PartialEq, Eq)]
         #[non_exhaustive]
         pub enum SeatFault {
@@ -68,6 +69,8 @@ seat_faults! {
     54 SeatLost "seat lost"
     55 SeatAtRest "seat at rest"
     56 BankOpen "bank open"
+    101 OtherBank "value of another bank"
+    102 Guarded "value with a guard"
 }
 
 impl SeatFault {

@@ -1,7 +1,8 @@
 //! The threading layer of DragonFly BSD on modelled processors: scripts run to their reports, traces judged, runs shown, the
-//! steps on a token's word, and banks of tokens for the caller's own threads. This crate is safe Rust over a library that is proved in
-//! Rattle; it adds no logic of its own. Without the feature `std`, which is on unless turned off, it is the steps on words alone, and needs
-//! no standard library.
+//! steps on a token's word, and banks of tokens for the caller's own threads. With the feature `record` it also records what threads do with
+//! tokens of their own. This crate is safe Rust over a library that is proved in
+//! Rattle; it adds no logic of its own. Without the feature `std`, which is on unless turned off, it is the steps on words alone, for any
+//! processor: it needs no standard library, and links nothing.
 //!
 //! ```
 //! let script = r#"{"version":1,"turns":50,"idle":100000000,"cpus":1,
@@ -23,15 +24,27 @@ mod bank;
 mod calls;
 #[cfg(feature = "std")]
 mod fault;
+#[cfg(feature = "std")]
+mod guard;
+#[cfg(feature = "record")]
+mod record;
+#[cfg(any(test, not(feature = "std")))]
+mod steps;
+#[cfg(feature = "std")]
+mod waits;
 mod word;
 
 #[cfg(feature = "std")]
 pub use bank::{Bank, Closing, Held, Missed, NotClosed, Reference, Resumed, RowLaw, Seat, Token};
 #[cfg(feature = "std")]
 pub use calls::{
-    check_trace, explore_orders, is_text, run_text, run_turns, show_turns, text_json, End, Finding, Judgement, Orders, Refusal,
-    Run, TextRun, Tried,
+    check_trace, explore_orders, is_text, run_text, run_turns, show_turns, text_json, version, End, Finding, Judgement, Orders,
+    Refusal, Run, TextRun, Tried,
 };
 #[cfg(feature = "std")]
 pub use fault::SeatFault;
+#[cfg(feature = "std")]
+pub use guard::{Guard, Guarded, ReadGuard};
+#[cfg(feature = "record")]
+pub use record::{RecordFault, Recorder};
 pub use word::{StepFault, Word};

@@ -1,14 +1,66 @@
 use core::fmt;
 
-// As include/lwkt.h declares them.
-extern "C" {
-    fn lwkt_word_take(word: u64, next: *mut u64) -> u32;
-    fn lwkt_word_share(word: u64, alone: bool, next: *mut u64) -> u32;
-    fn lwkt_word_again(word: u64, next: *mut u64) -> u32;
-    fn lwkt_word_mark(word: u64) -> u64;
-    fn lwkt_word_give_one(word: u64, next: *mut u64) -> u32;
-    fn lwkt_word_give_clean(word: u64, next: *mut u64) -> u32;
-    fn lwkt_word_give_written(word: u64, next: *mut u64) -> u32;
+#[cfg(feature = "std")]
+use self::linked as steps;
+#[cfg(not(feature = "std"))]
+use crate::steps;
+
+// The steps of the library: an answer is the next word, or the number of a fault.
+#[cfg(feature = "std")]
+mod linked {
+    // As include/lwkt.h declares them.
+    extern "C" {
+        fn lwkt_word_take(word: u64, next: *mut u64) -> u32;
+        fn lwkt_word_share(word: u64, alone: bool, next: *mut u64) -> u32;
+        fn lwkt_word_again(word: u64, next: *mut u64) -> u32;
+        fn lwkt_word_mark(word: u64) -> u64;
+        fn lwkt_word_give_one(word: u64, next: *mut u64) -> u32;
+        fn lwkt_word_give_clean(word: u64, next: *mut u64) -> u32;
+        fn lwkt_word_give_written(word: u64, next: *mut u64) -> u32;
+    }
+
+    fn stepped(step: impl FnOnce(&mut u64) -> u32) -> Result<u64, u32> {
+        let mut next = 0;
+        match step(&mut next) {
+            0 => Ok(next),
+            fault => Err(fault),
+        }
+    }
+
+    pub(super) fn take(word: u64) -> Result<u64, u32> {
+        // SAFETY: `next` is one value that is borrowed alone.
+        stepped(|next| unsafe { lwkt_word_take(word, next) })
+    }
+
+    pub(super) fn share(word: u64, alone: bool) -> Result<u64, u32> {
+        // SAFETY: as in `take`.
+        stepped(|next| unsafe { lwkt_word_share(word, alone, next) })
+    }
+
+    pub(super) fn again(word: u64) -> Result<u64, u32> {
+        // SAFETY: as in `take`.
+        stepped(|next| unsafe { lwkt_word_again(word, next) })
+    }
+
+    pub(super) fn mark(word: u64) -> u64 {
+        // SAFETY: the call takes any word, and no pointer.
+        unsafe { lwkt_word_mark(word) }
+    }
+
+    pub(super) fn give_one(word: u64) -> Result<u64, u32> {
+        // SAFETY: as in `take`.
+        stepped(|next| unsafe { lwkt_word_give_one(word, next) })
+    }
+
+    pub(super) fn give_clean(word: u64) -> Result<u64, u32> {
+        // SAFETY: as in `take`.
+        stepped(|next| unsafe { lwkt_word_give_clean(word, next) })
+    }
+
+    pub(super) fn give_written(word: u64) -> Result<u64, u32> {
+        // SAFETY: as in `take`.
+        stepped(|next| unsafe { lwkt_word_give_written(word, next) })
+    }
 }
 
 /// Why a step on a word can't be made.
@@ -98,8 +150,7 @@ impl Word {
     ///
     /// `Worn` at the last generation; else `Busy` where anyone holds the token.
     pub fn take(self) -> Result<Word, StepFault> {
-        // SAFETY: `next` is one value that is borrowed alone.
-        stepped(|next| unsafe { lwkt_word_take(self.0, next) })
+        stepped(steps::take(self.0))
     }
 
     /// Takes the token shared, for a processor that holds nothing of it. `alone` says that the asking thread has no reference to
@@ -109,8 +160,7 @@ impl Word {
     ///
     /// `Busy` where the token is held exclusively or the mark holds the request off; else `Full`.
     pub fn share(self, alone: bool) -> Result<Word, StepFault> {
-        // SAFETY: as in `take`.
-        stepped(|next| unsafe { lwkt_word_share(self.0, alone, next) })
+        stepped(steps::share(self.0, alone))
     }
 
     /// A further reference of a processor that holds the token, in the mode of its first.
@@ -119,14 +169,12 @@ impl Word {
     ///
     /// `NotHeld` where nobody holds the token; `Full`.
     pub fn again(self) -> Result<Word, StepFault> {
-        // SAFETY: as in `take`.
-        stepped(|next| unsafe { lwkt_word_again(self.0, next) })
+        stepped(steps::again(self.0))
     }
 
     /// The word with the mark of an exclusive request.
     pub fn mark(self) -> Word {
-        // SAFETY: the call takes any word, and no pointer.
-        Word(unsafe { lwkt_word_mark(self.0) })
+        Word(steps::mark(self.0))
     }
 
     /// A reference back that doesn't end an exclusive holding.
@@ -135,8 +183,7 @@ impl Word {
     ///
     /// `NotHeld` where the word counts none.
     pub fn give_one(self) -> Result<Word, StepFault> {
-        // SAFETY: as in `take`.
-        stepped(|next| unsafe { lwkt_word_give_one(self.0, next) })
+        stepped(steps::give_one(self.0))
     }
 
     /// The last reference of an exclusive holder back, who has written nothing that the token guards.
@@ -145,8 +192,7 @@ impl Word {
     ///
     /// `NotHeld` where nobody holds the token exclusively; `NotLast` where its holder has references beyond the first.
     pub fn give_clean(self) -> Result<Word, StepFault> {
-        // SAFETY: as in `take`.
-        stepped(|next| unsafe { lwkt_word_give_clean(self.0, next) })
+        stepped(steps::give_clean(self.0))
     }
 
     /// The same of a holder who has written: the generation is one more.
@@ -155,20 +201,61 @@ impl Word {
     ///
     /// `Worn` at the last generation; else as [`Word::give_clean`].
     pub fn give_written(self) -> Result<Word, StepFault> {
-        // SAFETY: as in `take`.
-        stepped(|next| unsafe { lwkt_word_give_written(self.0, next) })
+        stepped(steps::give_written(self.0))
     }
 }
 
-/// The next word of a step.
-fn stepped(step: impl Fn(&mut u64) -> u32) -> Result<Word, StepFault> {
-    let mut next = 0;
-    match step(&mut next) {
-        0 => Ok(Word(next)),
-        12 => Err(StepFault::NotLast),
-        13 => Err(StepFault::NotHeld),
-        20 => Err(StepFault::Worn),
-        39 => Err(StepFault::Full),
-        _ => Err(StepFault::Busy),
+// What came of a step.
+fn stepped(step: Result<u64, u32>) -> Result<Word, StepFault> {
+    step.map(Word).map_err(|fault| match fault {
+        12 => StepFault::NotLast,
+        13 => StepFault::NotHeld,
+        20 => StepFault::Worn,
+        39 => StepFault::Full,
+        _ => StepFault::Busy,
+    })
+}
+
+#[cfg(all(test, feature = "std"))]
+mod tests {
+    use super::{linked, LAST_GENERATION};
+    use crate::steps;
+
+    fn try_word(word: u64) {
+        assert_eq!(steps::take(word), linked::take(word), "take {word}");
+        assert_eq!(steps::share(word, true), linked::share(word, true), "share {word}, alone");
+        assert_eq!(steps::share(word, false), linked::share(word, false), "share {word}");
+        assert_eq!(steps::again(word), linked::again(word), "again {word}");
+        assert_eq!(steps::mark(word), linked::mark(word), "mark {word}");
+        assert_eq!(steps::give_one(word), linked::give_one(word), "give_one {word}");
+        assert_eq!(steps::give_clean(word), linked::give_clean(word), "give_clean {word}");
+        assert_eq!(steps::give_written(word), linked::give_written(word), "give_written {word}");
+    }
+
+    // Each word with any flags, any count and a generation at an end or between.
+    #[test]
+    fn corners_are_as_the_library_has_them() {
+        for generation in [0, 1, LAST_GENERATION / 2, LAST_GENERATION - 1, LAST_GENERATION] {
+            (0..1 << 18).for_each(|low| try_word(generation << 18 | low));
+        }
+    }
+
+    #[test]
+    fn random_words_are_as_the_library_has_them() {
+        let words: u64 = std::env::var("WORDS").map_or(1_000_000, |words| words.parse().unwrap());
+        let mut bits = 2026u64;
+        for round in 0..words {
+            bits = bits
+                .wrapping_mul(6_364_136_223_846_793_005)
+                .wrapping_add(1_442_695_040_888_963_407);
+            let word = bits ^ bits >> 29;
+            try_word(match round % 8 {
+                0 => word & !(65_535 << 2),
+                1 => word | 65_535 << 2,
+                2 => word | LAST_GENERATION << 18,
+                3 => word & !(65_535 << 2) | LAST_GENERATION << 18,
+                _ => word,
+            });
+        }
     }
 }

@@ -1,6 +1,8 @@
 //! Banks of tokens: sections of four threads, and what each call refuses.
 use lwkt::{Bank, Closing, Held, Missed, Reference, RowLaw, Seat, SeatFault, Token};
+use std::sync::mpsc;
 use std::thread;
+use std::time::Duration;
 
 const ROUNDS: u64 = 100_000;
 const TALLY: u32 = 0;
@@ -32,7 +34,7 @@ fn refused<T>(answer: Result<T, SeatFault>) -> u32 {
 
 // Writes the record of the token of lengths anew, all of one letter, and its length into the cell.
 fn rewrite(seat: &mut Seat, letter: u8) -> Result<(), SeatFault> {
-    let mut held = seat.take_waiting(LEN)?;
+    let held = seat.take_waiting(LEN)?;
     let record = held.read_record()?;
     assert_eq!(held.load(0)?, record.len() as u64);
     assert!(record.iter().all(|byte| *byte == record[0]));
@@ -48,7 +50,7 @@ fn work(seat: &mut Seat, letter: u8) -> Result<(), SeatFault> {
     for round in 0..ROUNDS {
         seat.take_waiting(TALLY)?.add(1)?;
         if round % 100 == 0 {
-            let mut held = seat.take_waiting(SUM)?;
+            let held = seat.take_waiting(SUM)?;
             let (first, second) = (held.load(0)?, held.load(1)?);
             assert_eq!(first + second, 1_000_000);
             held.store(0, first - 1)?;
@@ -71,7 +73,7 @@ fn sections_of_four_threads_add_up() {
     });
     let seat = &mut seats[0];
     assert_eq!(seat.share(TALLY).unwrap().load(0), Ok(5 + 4 * ROUNDS));
-    let mut held = seat.share(SUM).unwrap();
+    let held = seat.share(SUM).unwrap();
     assert_eq!(held.load(0), Ok(400_000 - 4 * ROUNDS / 100));
     assert_eq!(held.load(1), Ok(600_000 + 4 * ROUNDS / 100));
 }
@@ -84,7 +86,7 @@ fn what_is_not_there_is_refused() {
     assert_eq!(refused(seat.take_waiting(u32::MAX)), 16);
     assert_eq!(refused(seat.share(TOKENS)), 16);
     assert_eq!(refused(seat.mark(TOKENS)), 16);
-    let mut held = seat.take(ANY).unwrap();
+    let held = seat.take(ANY).unwrap();
     assert_eq!(refused(held.load(1)), 17);
     assert_eq!(refused(held.store(256, 1)), 17);
     assert_eq!(refused(held.read_record()), 17);
@@ -95,9 +97,9 @@ fn what_is_not_there_is_refused() {
 #[test]
 fn what_the_holding_forbids_is_refused() {
     let mut seats = seats();
-    let mut other = seats.pop().unwrap();
+    let other = seats.pop().unwrap();
     let seat = &mut seats[0];
-    let mut held = seat.share(ANY).unwrap();
+    let held = seat.share(ANY).unwrap();
     assert_eq!(refused(held.take(ANY)), 11);
     assert_eq!(refused(held.store(0, 1)), 18);
     assert_eq!(refused(held.add(1)), 18);
@@ -106,7 +108,7 @@ fn what_the_holding_forbids_is_refused() {
     assert_eq!(refused(other.take(ANY)), 23);
     held.give().unwrap();
     assert_eq!(refused(seat.take(ANY).unwrap().add(1)), 22);
-    let mut tally = seat.take(TALLY).unwrap();
+    let tally = seat.take(TALLY).unwrap();
     assert_eq!(refused(tally.store(0, 1)), 22);
     assert_eq!(refused(tally.add(u64::MAX)), 21);
     assert_eq!(tally.load(0), Ok(5));
@@ -115,7 +117,7 @@ fn what_the_holding_forbids_is_refused() {
 #[test]
 fn a_mark_holds_off_who_has_nothing() {
     let mut seats = seats();
-    let mut other = seats.pop().unwrap();
+    let other = seats.pop().unwrap();
     let seat = &mut seats[0];
     let held = seat.share(ANY).unwrap();
     other.mark(ANY).unwrap();
@@ -139,7 +141,7 @@ fn nest(held: &mut Held<'_>, further: u32) -> u32 {
 #[test]
 fn references_end_with_their_guards() {
     let mut seats = seats();
-    let mut other = seats.pop().unwrap();
+    let other = seats.pop().unwrap();
     assert_eq!(nest(&mut seats[0].take(ANY).unwrap(), 0), 10);
     assert_eq!(refused(other.take(ANY)), 0);
 }
@@ -148,12 +150,12 @@ fn references_end_with_their_guards() {
 fn a_row_that_breaks_its_law_is_the_first_row_again() {
     let mut seats = seats();
     let seat = &mut seats[0];
-    let mut held = seat.take(ORDER).unwrap();
+    let held = seat.take(ORDER).unwrap();
     held.store(0, 9).unwrap();
     assert_eq!(refused(held.give()), 19);
     seat.take(ORDER).unwrap().store(0, 9).unwrap();
     assert_eq!(seat.share(ORDER).unwrap().load(0), Ok(1));
-    let mut held = seat.take(ORDER).unwrap();
+    let held = seat.take(ORDER).unwrap();
     held.store(0, 9).unwrap();
     held.restore().unwrap();
     assert_eq!(held.is_lawful(), Ok(true));
@@ -162,9 +164,9 @@ fn a_row_that_breaks_its_law_is_the_first_row_again() {
 #[test]
 fn a_record_is_read_and_written() {
     let mut seats = seats();
-    let mut other = seats.pop().unwrap();
+    let other = seats.pop().unwrap();
     let seat = &mut seats[0];
-    let mut held = seat.take(NOTE).unwrap();
+    let held = seat.take(NOTE).unwrap();
     held.write_record(b"hello").unwrap();
     assert_eq!(held.read_record(), Ok(b"hello".to_vec()));
     held.restore().unwrap();
@@ -173,7 +175,7 @@ fn a_record_is_read_and_written() {
     assert_eq!(refused(held.write_record(&[7; 65])), 38);
     held.give().unwrap();
     assert_eq!(other.take(NOTE).unwrap().read_record(), Ok(vec![7; 64]));
-    let mut held = other.share(NOTE).unwrap();
+    let held = other.share(NOTE).unwrap();
     assert_eq!(refused(held.read_record()), 37);
     assert_eq!(refused(held.write_record(&[7; 65])), 37);
 }
@@ -182,11 +184,11 @@ fn a_record_is_read_and_written() {
 fn a_record_of_another_length_is_the_first_one_again() {
     let mut seats = seats();
     let seat = &mut seats[0];
-    let mut held = seat.take(LEN).unwrap();
+    let held = seat.take(LEN).unwrap();
     held.write_record(b"hello").unwrap();
     assert_eq!(held.is_lawful(), Ok(false));
     assert_eq!(refused(held.give()), 19);
-    let mut held = seat.take(LEN).unwrap();
+    let held = seat.take(LEN).unwrap();
     assert_eq!(held.read_record(), Ok(b"aaa".to_vec()));
     held.write_record(b"").unwrap();
     held.store(0, 0).unwrap();
@@ -210,13 +212,13 @@ fn a_list_is_taken_all_or_none() {
     let blocker = other.take(SUM).unwrap();
     assert_eq!(seat.resume(&list).err(), missed(1, 23));
     blocker.give().unwrap();
-    let mut held = seat.resume(&list).unwrap();
+    let held = seat.resume(&list).unwrap();
     assert_eq!(held.load(ANY, 0), Ok(0));
     assert_eq!(other.resume(&list).err(), missed(1, 23));
     held.store(SUM, 0, 1).unwrap();
     assert_eq!(held.is_lawful(SUM), Ok(false));
     assert_eq!(held.block(), Some(SUM));
-    let mut held = other.resume(&list).unwrap();
+    let held = other.resume(&list).unwrap();
     assert_eq!(held.load(SUM, 0), Ok(400_000));
     assert_eq!(held.block(), None);
 }
@@ -241,7 +243,7 @@ fn what_is_no_list_is_refused() {
 // Adds to two tokens, which it takes together.
 fn work_on_list(seat: &mut Seat, list: [Reference; 2]) {
     for _ in 0..ROUNDS / 100 {
-        let mut held = loop {
+        let held = loop {
             match seat.resume(&list) {
                 Ok(held) => break held,
                 Err(missed) if missed.fault.is_busy() => thread::yield_now(),
@@ -265,7 +267,7 @@ fn lists_of_four_threads_add_up() {
             scope.spawn(move || work_on_list(seat, list));
         }
     });
-    let mut held = seats[0].resume(&list).unwrap();
+    let held = seats[0].resume(&list).unwrap();
     assert_eq!(held.load(ANY, 0), Ok(4 * ROUNDS / 100));
     assert_eq!(held.load(TALLY, 0), Ok(5 + 4 * ROUNDS / 100));
 }
@@ -319,7 +321,7 @@ fn a_bank_closes_with_what_its_tokens_came_to() {
             scope.spawn(move || work(seat, letter).unwrap());
         }
     });
-    let mut held = bank.seats()[2].take(NOTE).unwrap();
+    let held = bank.seats()[2].take(NOTE).unwrap();
     held.write_record(&[7; 64]).unwrap();
     held.give().unwrap();
     let closings = bank.close().unwrap();
@@ -406,4 +408,192 @@ fn a_fault_has_the_number_that_it_was_made_of() {
     }
     assert_eq!(SeatFault::of_number(34), SeatFault::Race);
     assert_eq!(SeatFault::of_number(99).to_string(), "fault 99");
+}
+
+#[test]
+fn values_are_guarded_by_their_tokens() {
+    let mut bank = Bank::open(&tokens(), 4).unwrap();
+    let log = bank.guard(ANY, Vec::new()).unwrap();
+    let sums = bank.guard(ANY, (0, 0)).unwrap();
+    assert_eq!(refused(bank.guard(TOKENS, ())), 16);
+    thread::scope(|scope| {
+        for (seat, number) in bank.seats().iter_mut().zip(0u64..) {
+            let (log, sums) = (&log, &sums);
+            scope.spawn(move || {
+                for round in 0..ROUNDS / 100 {
+                    let mut log = seat.lock_waiting(log).unwrap();
+                    let mut sums = seat.lock(sums).unwrap();
+                    assert_eq!(log.len() as u64, sums.0);
+                    *sums = (sums.0 + 1, sums.1 + round);
+                    drop(sums);
+                    log.push(number);
+                }
+            });
+        }
+    });
+    let mut log = log.into_inner();
+    log.sort();
+    assert_eq!(log, (0..4).flat_map(|number| vec![number; 1000]).collect::<Vec<u64>>());
+    assert_eq!(sums.into_inner(), (4000, 4 * 999 * 500));
+    bank.close().unwrap();
+}
+
+#[test]
+fn one_guard_has_a_value_or_many_read_it() {
+    let mut bank = Bank::open(&tokens(), 2).unwrap();
+    let value = bank.guard(ANY, 7).unwrap();
+    let [seat, other] = bank.seats() else { panic!() };
+    let first = seat.read(&value).unwrap();
+    let second = seat.read(&value).unwrap();
+    assert_eq!((*first, *second, *other.read(&value).unwrap()), (7, 7, 7));
+    assert_eq!(refused(seat.lock(&value)), 11);
+    assert_eq!(refused(other.lock(&value)), 23);
+    drop((first, second));
+    let held = seat.take(ANY).unwrap();
+    let first = seat.read(&value).unwrap();
+    assert_eq!(refused(seat.lock(&value)), 102);
+    drop(first);
+    let mut alone = seat.lock(&value).unwrap();
+    *alone += 1;
+    held.give().unwrap();
+    assert_eq!(refused(seat.lock(&value)), 102);
+    assert_eq!(refused(seat.read(&value)), 102);
+    assert_eq!(refused(other.read(&value)), 23);
+    std::mem::forget(alone);
+    seat.block();
+    assert_eq!(refused(other.lock(&value)), 102);
+    assert_eq!(value.into_inner(), 8);
+}
+
+#[test]
+fn a_value_of_another_bank_is_refused() {
+    let mut bank = Bank::open(&tokens(), 1).unwrap();
+    let other = Bank::open(&tokens(), 1).unwrap();
+    let value = other.guard(ANY, 7).unwrap();
+    let seat = &mut bank.seats()[0];
+    assert_eq!(refused(seat.lock(&value)), 101);
+    assert_eq!(refused(seat.lock_waiting(&value)), 101);
+    assert_eq!(refused(seat.read(&value)), 101);
+    assert_eq!(refused(seat.resume(&[]).unwrap().lock(&value)), 101);
+}
+
+#[test]
+fn a_section_with_a_guard_keeps_the_law() {
+    let mut bank = Bank::open(&tokens(), 1).unwrap();
+    let value = bank.guard(SUM, 7).unwrap();
+    let seat = &mut bank.seats()[0];
+    let guard = seat.lock(&value).unwrap();
+    guard.held().store(0, 9).unwrap();
+    assert_eq!(guard.held().is_lawful(), Ok(false));
+    drop(guard);
+    assert_eq!(seat.share(SUM).unwrap().load(0), Ok(400_000));
+}
+
+#[test]
+fn errors_go_anywhere() {
+    fn goes<T: std::error::Error + Send + Sync + 'static>() {}
+    goes::<SeatFault>();
+    goes::<Missed>();
+    goes::<lwkt::NotClosed>();
+    goes::<lwkt::Refusal>();
+    goes::<lwkt::StepFault>();
+    fn closed() -> Result<Vec<Closing>, Box<dyn std::error::Error + Send + Sync>> {
+        Ok(Bank::open(&tokens(), 1)?.close()?)
+    }
+    assert_eq!(closed().unwrap().len(), TOKENS as usize);
+}
+
+// Whether a thread that waits for a token is woken by what the call does once the thread waits.
+fn wakes(gives: fn(&mut Seat, &mut dyn FnMut())) {
+    let mut seats = seats();
+    let (ended, ends) = mpsc::channel();
+    let mut waiting = Some((seats.pop().unwrap(), ended));
+    gives(&mut seats[0], &mut || {
+        let (seat, ended) = waiting.take().unwrap();
+        thread::spawn(move || {
+            drop(seat.take_waiting(ANY).unwrap());
+            ended.send(()).unwrap();
+        });
+        thread::sleep(Duration::from_millis(30));
+    });
+    ends.recv_timeout(Duration::from_secs(60)).expect("a thread sleeps for ever");
+}
+
+#[test]
+fn who_gives_back_wakes_who_waits() {
+    wakes(|seat, wait| {
+        let _held = seat.take(ANY).unwrap();
+        wait();
+    });
+    wakes(|seat, wait| {
+        let held = seat.share(ANY).unwrap();
+        wait();
+        held.give().unwrap();
+    });
+    wakes(|seat, wait| {
+        let held = seat.take(ORDER).unwrap();
+        let inner = held.take(ANY).unwrap();
+        wait();
+        std::mem::forget(inner);
+        drop(held);
+        assert_eq!(seat.block(), None);
+    });
+    wakes(|seat, wait| {
+        let _list = seat.resume(&[Reference::shared(ANY), Reference::exclusive(ORDER)]).unwrap();
+        wait();
+    });
+}
+
+// Sections of more kinds than one, in which a thread sleeps until another one has given back what it waits for.
+fn wait_in_turns(seat: &mut Seat, number: u64, shared: &lwkt::Guarded<(u64, u64)>) {
+    for round in 0..ROUNDS / 20 {
+        match (round + number) % 4 {
+            0 => {
+                let mut both = seat.lock_waiting(shared).unwrap();
+                both.0 += 1;
+                if round % 500 == 0 {
+                    thread::sleep(Duration::from_micros(50));
+                }
+                both.1 += 1;
+            }
+            1 => {
+                let both = seat.read_waiting(shared).unwrap();
+                assert_eq!(both.0, both.1);
+            }
+            2 => {
+                let list = [Reference::exclusive(ANY), Reference::exclusive(TALLY)];
+                let list = if number % 2 == 0 { list } else { [list[1], list[0]] };
+                let held = seat.resume_waiting(&list).unwrap();
+                held.add(TALLY, 1).unwrap();
+                held.lock(shared).unwrap().0 += 0;
+            }
+            _ => drop(seat.share_waiting(TALLY).unwrap().load(0).unwrap()),
+        }
+    }
+}
+
+#[test]
+fn threads_that_wait_are_woken() {
+    let mut bank = Bank::open(&tokens(), 8).unwrap();
+    let shared = bank.guard(ANY, (0, 0)).unwrap();
+    thread::scope(|scope| {
+        for (seat, number) in bank.seats().iter_mut().zip(0..) {
+            let shared = &shared;
+            scope.spawn(move || wait_in_turns(seat, number, shared));
+        }
+    });
+    assert_eq!(shared.into_inner(), (2 * ROUNDS / 20, 2 * ROUNDS / 20));
+    assert_eq!(bank.close().unwrap()[TALLY as usize].cells, [5 + 2 * ROUNDS / 20]);
+}
+
+#[test]
+fn what_can_not_be_waited_for_is_refused() {
+    let mut seats = seats();
+    assert_eq!(refused(seats[0].share_waiting(TOKENS)), 16);
+    let list = [Reference::shared(ANY), Reference::exclusive(ANY)];
+    assert_eq!(seats[0].resume_waiting(&list).err(), missed(1, 11));
+    let held = seats[0].share_waiting(ANY).unwrap();
+    assert_eq!(refused(seats[0].take_waiting(ANY)), 11);
+    drop(held);
+    assert_eq!(seats[0].resume_waiting(&[]).unwrap().block(), None);
 }

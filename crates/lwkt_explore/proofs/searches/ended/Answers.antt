@@ -7,7 +7,8 @@ use Rattle.lwkt_script.specs.declared.scripts.Script.{Script}
 use Rattle.lwkt_search.specs.declared.searches.Outcome.{Outcome as Last}
 use Rattle.lwkt_explore.specs.declared.outcomes.Outcomes.{Outcomes}
 use Rattle.lwkt_explore.specs.Outcomes.{AreAlike, AreOnce, AreOutcomes, HasEnded, HasReport}
-use Rattle.lwkt_explore.specs.Searches.{AreShortest, IsLostAlong, NoneIsLost}
+use Rattle.lwkt_explore.specs.Searches.{AreShortest, IsLostAlong, NoneIsLost, StuckAt}
+use Rattle.lwkt_plain.specs.Deadlocks.{IsStandstill}
 use Rattle.lwkt_explore.proofs.ToldLemmas.{all_are_told}
 use Rattle.lwkt_explore.proofs.searches.ended.Goals as goal
 
@@ -53,6 +54,15 @@ returns-in-None-clause-once g c =
 
 pub returns-in-None-clause-ended : goal.returns-in-None-clause-ended
 returns-in-None-clause-ended g c = λ complete none. let F : Outcomes → Type 0 = HasEnded in subst F (sym c.whole_of.ensures.outcomes) (c.whole_of.ensures.ended complete none)
+
+pub returns-in-None-clause-stuck : goal.returns-in-None-clause-stuck
+returns-in-None-clause-stuck g c = λ complete.
+    let script = c.args.script.now in
+    let unmet : c.bound_of.result ≡ None = search rules in
+    let met : c.args.found.growth.met ≡ None = c.bound_of.ensures unmet in
+    let same : c.compared.new.outcomes ≡ c.told_of.new.outcomes = c.in_ok-bound.ensures.same (search rules) in
+    let G : Outcomes → Type 0 = StuckAt (IsStandstill script) script in
+    subst G (sym (c.whole_of.ensures.outcomes ∙ same)) (c.in_ok-told.ensures.stuck c.in-None.is met)
 
 pub returns-in-None-clause-all : goal.returns-in-None-clause-all
 returns-in-None-clause-all g c = λ yes.

@@ -4,7 +4,9 @@ use Rattle.lwkt_search.specs.declared.searches.Outcome.{Outcome as Last}
 use Rattle.lwkt_explore.specs.declared.outcomes.Kind.TheVariants.{Cut}
 use Rattle.std.specs.Prelude.{All}
 use Rattle.lwkt_explore.specs.Outcomes.{HasReport}
-use Rattle.lwkt_explore.specs.Searches.{IsShortestOrder}
+use Rattle.lwkt_explore.specs.Searches.{IsLastAt, IsShortestOrder}
+use Rattle.lwkt_plain.specs.Stores.{kept}
+use Rattle.lwkt_explore.proofs.ToldLemmas.{still_at}
 use Rattle.lwkt_explore.proofs.searches.tell.Goals as goal
 
 pub returns-then-eq-clause-short : goal.returns-then-eq-clause-short
@@ -46,6 +48,10 @@ loop-at-preserved g c =
           let S : Last → Type 0 = λ o. IsShortestOrder script o.order.items in
           let T : List ℕ → Type 0 = IsShortestOrder script in
           c.in_ok-kind.ensures.shortest (subst T (sym order) (subst S (sym c.index-told-at.is) (all at one below))) (c.loop-at.invariant.shortest all mine);
+      stuck = λ mine.
+          let L : Last → Type 0 = IsLastAt script (kept c.args.store.now) in
+          let last : L one = subst L (sym c.index-told-at.is) (c.requires.ends at one below) in
+          c.in_ok-kind.ensures.stuck (λ quiet. still_at script (kept c.args.store.now) one c.in_ok-order.order.items last order (c.last_state_of-last_state.ensures quiet)) (c.loop-at.invariant.stuck mine);
       told = λ k d less. below_more P at all here k less d;
     }
 
@@ -62,3 +68,14 @@ returns-then-eq-clause-shortest g c = λ all mine.
 
 pub returns-then-eq-clause-once : goal.returns-then-eq-clause-once
 returns-then-eq-clause-once g c = λ once. c.add.ensures.once (c.loop-at.invariant.once once)
+
+pub returns-then-eq-clause-stuck : goal.returns-then-eq-clause-stuck
+returns-then-eq-clause-stuck g c = λ mine.
+    let one : Last = c.index-told-at.result in
+    let told = c.args.told.now in
+    let script = c.args.script.now in
+    let below : c.loop-at.at < length told = omega arith in
+    let order : c.in_ok-order.order.items ≡ one.order.items = c.in_ok-order.ensures.items ∙ c.as_slice.ensures.value in
+    let L : Last → Type 0 = IsLastAt script (kept c.args.store.now) in
+    let last : L one = subst L (sym c.index-told-at.is) (c.requires.ends c.loop-at.at one below) in
+    c.add.ensures.stuck (λ quiet. still_at script (kept c.args.store.now) one c.in_ok-order.order.items last order (c.last_state_of-last_state.ensures quiet)) (c.loop-at.invariant.stuck mine)

@@ -5,10 +5,11 @@ use Rattle.std.specs.Prelude.{◌≢◌, All, Vec}
 use Rattle.std.proofs.lemmas.List.Quantifiers.{all_pairs_push}
 use Rattle.std.specs.List.{AllPairs, Any}
 use Rattle.std.specs.declared.alloc.Global.{Global}
-use Rattle.lwkt_explore.specs.declared.outcomes.Kind.TheVariants.{Ended, Cut}
+use Rattle.lwkt_explore.specs.declared.outcomes.Kind.TheVariants.{Ended, Stuck, Cut}
 use Rattle.lwkt_explore.specs.declared.outcomes.Outcome.{Outcome}
 use Rattle.lwkt_explore.specs.Outcomes.{AreAlike, IsOutcome, IsReportAlong}
-use Rattle.lwkt_explore.specs.Searches.{IsShortestOrder}
+use Rattle.lwkt_explore.specs.Searches.{state_after, IsShortestOrder}
+use Rattle.lwkt_plain.specs.Deadlocks.{IsStandstill}
 use Rattle.lwkt_run.specs.Run.{IsOrderRun}
 use Rattle.lwkt_script.specs.declared.scripts.Script.{Script}
 use Rattle.lwkt_explore.proofs.EndLemmas.{Any-append, Any-weaker}
@@ -204,3 +205,32 @@ returns-in-None-clause-shortest g c = λ is all.
     let old = c.args.self.now.all.items in
     let one = c.in_ok-outcome.outcome in
     subst F (sym (more c.keep.new.self.all.items c.make_room.new.self.all.items old one c.keep.ensures.all c.make_room.ensures.all)) (All-push P old one all (subst G (sym c.in_ok-outcome.ensures.order) is))
+
+-- the state of a stuck outcome is one that no turn changes
+abbrev IsStill : Script → Outcome → Type 0
+IsStill script one = one.kind ≡ Stuck → IsStandstill script (state_after script one.order.items)
+
+pub returns-in_err-outcome-clause-stuck : goal.returns-in_err-outcome-clause-stuck
+returns-in_err-outcome-clause-stuck g c = λ is all.
+    let F : List Outcome → Type 0 = λ xs. All (IsStill c.args.script.now) xs in
+    subst F (sym c.make_room.ensures.all) all
+
+pub returns-in_err-make_room-clause-stuck : goal.returns-in_err-make_room-clause-stuck
+returns-in_err-make_room-clause-stuck g c = λ is all.
+    let F : List Outcome → Type 0 = λ xs. All (IsStill c.args.script.now) xs in
+    subst F (sym c.make_room.ensures.all) all
+
+pub returns-in-Some-clause-stuck : goal.returns-in-Some-clause-stuck
+returns-in-Some-clause-stuck g c = λ is all.
+    let F : List Outcome → Type 0 = λ xs. All (IsStill c.args.script.now) xs in
+    subst F (sym (same c.count.new.self.all c.make_room.new.self.all c.args.self.now.all.items c.count.ensures.all c.make_room.ensures.all)) all
+
+pub returns-in-None-clause-stuck : goal.returns-in-None-clause-stuck
+returns-in-None-clause-stuck g c = λ is all.
+    let script = c.args.script.now in
+    let old = c.args.self.now.all.items in
+    let one = c.in_ok-outcome.outcome in
+    let F : List Outcome → Type 0 = λ xs. All (IsStill script) xs in
+    let G : List ℕ → Type 0 = λ order. IsStandstill script (state_after script order) in
+    let own : IsStill script one = λ stuck. subst G (sym c.in_ok-outcome.ensures.order) (is (c.in_ok-outcome.ensures.stuck stuck)) in
+    subst F (sym (more c.keep.new.self.all.items c.make_room.new.self.all.items old one c.keep.ensures.all c.make_room.ensures.all)) (All-push (IsStill script) old one all own)
