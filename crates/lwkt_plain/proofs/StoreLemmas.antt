@@ -10,7 +10,8 @@ use Rattle.lwkt_plain.specs.declared.states.Processor.{Processor}
 use Rattle.lwkt_plain.specs.declared.stores.Store.{Store}
 use Rattle.lwkt_plain.specs.Hashes.{token_key, letter_key, mail_key, processor_key}
 use Rattle.lwkt_plain.specs.Stores.{first, decoded, state_of, kept, IsKnown, IsStore}
-use Rattle.lwkt_plain.proofs.ShelfLemmas.{code_long, list_long, list_same, shelf_parts, shelf_wide}
+use Rattle.lwkt_search.proofs.CodeLemmas.{code_long}
+use Rattle.lwkt_plain.proofs.ShelfLemmas.{list_long, list_same, shelf_parts, shelf_wide}
 
 pub first_same : {S : Type 0} (n : ℕ) (f g : ℕ → S) → ((k : ℕ) → k < n → f k ≡ g k) → first n f ≡ first n g
 first_same zero f g same = refl
@@ -63,26 +64,16 @@ four_numbers (k ∷ l ∷ m ∷ n ∷ []) a b c d long ea eb ec ed = cc
 four_numbers (k ∷ l ∷ m ∷ n ∷ o ∷ code) a b c d long ea eb ec ed = absurd (omega arith)
 
 -- a code has four numbers
-pub code_kept : (s : Store) (at : ℕ) → IsStore s → at < length s.codes.index.links.items → length (code_at s.codes.width s.codes.flat.items at) ≡ 4
-code_kept s at is there = code_long s.codes.width (length s.codes.index.links.items) at s.codes.flat.items is.states.codes.long there ∙ is.states.width
-
--- a code's numbers, read
-pub record IsCode (s : Store) (code : List ℕ) : Type 0 where
-  pub long : length code ≡ 4
-  pub known : IsKnown s code
-
-pub code_of : (s : Store) (at : ℕ) (code : List ℕ) → IsStore s → at < length s.codes.index.links.items → code ≡ code_at s.codes.width s.codes.flat.items at → IsCode s code
-code_of s at code is there e =
-    let C : List ℕ → Type 0 = λ ns. IsCode s ns in
-    subst C (sym e) (record { long = code_kept s at is there; known = is.states.known at there })
+pub code_kept : (s : Store) (at : ℕ) → IsStore s → at < length s.codes.index.links.items → length (code_at s.codes.width s.codes.flat at) ≡ 4
+code_kept s at is there = code_long s.codes.width (length s.codes.index.links.items) at s.codes.flat is.states.codes.long there ∙ is.states.width
 
 pub kept_there : (s : Store) (at : ℕ) → at < length (kept s) → at < length s.codes.index.links.items
 kept_there s at there = omega (arith, there, first_long (length s.codes.index.links.items) (state_of s))
 
 -- only the code of its lists stands for the state that is worked on
-pub code_same : (s : Store) (k : ℕ) → IsStore s → k < length s.codes.index.links.items → state_of s k ≡ s.work → code_at s.codes.width s.codes.flat.items k ≡ code_now s
+pub code_same : (s : Store) (k : ℕ) → IsStore s → k < length s.codes.index.links.items → state_of s k ≡ s.work → code_at s.codes.width s.codes.flat k ≡ code_now s
 code_same s k is there e =
-    let code : List ℕ = code_at s.codes.width s.codes.flat.items k in
+    let code : List ℕ = code_at s.codes.width s.codes.flat k in
     let known : IsKnown s code = is.states.known k there in
     four_numbers code s.tokens.list s.letters.list s.mails.list s.cpus.list (code_kept s k is there)
     (list_same token_key s.tokens s.work.tokens (slice_index_or code 0 0) is.tokens known.tokens (ap (λ (p : Plain). p.tokens) e))
@@ -93,14 +84,14 @@ code_same s k is there e =
 -- how many processors a state that is kept has
 pub cpus_kept : (s : Store) (at : ℕ) → IsStore s → at < length s.codes.index.links.items → length (state_of s at).cpus ≡ length s.cpus.numbers.items
 cpus_kept s at is there =
-    list_long processor_key s.cpus (slice_index_or (code_at s.codes.width s.codes.flat.items at) 3 0) is.cpus.lists (is.states.known at there).cpus ∙ sym (shelf_wide processor_key s.cpus s.work.cpus is.cpus)
+    list_long processor_key s.cpus (slice_index_or (code_at s.codes.width s.codes.flat at) 3 0) is.cpus.lists (is.states.known at there).cpus ∙ sym (shelf_wide processor_key s.cpus s.work.cpus is.cpus)
 
 -- how many messages
 pub letters_kept : (s : Store) (at : ℕ) → IsStore s → at < length s.codes.index.links.items → length (state_of s at).letters ≡ length s.letters.numbers.items
 letters_kept s at is there =
-    list_long letter_key s.letters (slice_index_or (code_at s.codes.width s.codes.flat.items at) 1 0) is.letters.lists (is.states.known at there).letters ∙ sym (shelf_wide letter_key s.letters s.work.letters is.letters)
+    list_long letter_key s.letters (slice_index_or (code_at s.codes.width s.codes.flat at) 1 0) is.letters.lists (is.states.known at there).letters ∙ sym (shelf_wide letter_key s.letters s.work.letters is.letters)
 
 -- how many tokens
 pub tokens_kept : (s : Store) (at : ℕ) → IsStore s → at < length s.codes.index.links.items → length (state_of s at).tokens ≡ length s.tokens.numbers.items
 tokens_kept s at is there =
-    list_long token_key s.tokens (slice_index_or (code_at s.codes.width s.codes.flat.items at) 0 0) is.tokens.lists (is.states.known at there).tokens ∙ sym (shelf_wide token_key s.tokens s.work.tokens is.tokens)
+    list_long token_key s.tokens (slice_index_or (code_at s.codes.width s.codes.flat at) 0 0) is.tokens.lists (is.states.known at there).tokens ∙ sym (shelf_wide token_key s.tokens s.work.tokens is.tokens)

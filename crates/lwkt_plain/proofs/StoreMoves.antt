@@ -59,7 +59,7 @@ known_moved s w T L M C code are known =
 pub states_moved : (s : Store) (w : Plain) (T : Shelf Token) (L : Shelf Letter) (M : Shelf Mail) (C : Shelf Processor) → AreMoved s T L M C → AreStates s → AreStates (moved s w T L M C) × (kept (moved s w T L M C) ≡ kept s)
 states_moved s w T L M C are is =
     let count : ℕ = length s.codes.index.links.items in
-    let code : ℕ → List ℕ = code_at s.codes.width s.codes.flat.items in
+    let code : ℕ → List ℕ = code_at s.codes.width s.codes.flat in
     let same : (k : ℕ) → k < count → state_of (moved s w T L M C) k ≡ state_of s k = λ k h. decoded_moved s w T L M C (code k) are (is.known k h) in (
       record {
         codes = is.codes;
@@ -97,10 +97,10 @@ store_working s w is sound nt nl nm nc = record {
 }
 
 -- the state that is worked on got a number
-kept_states : (s : Store) (codes : Codes) (n : ℕ) → IsStore s → IsSound s.work → AreCodes codes.width codes.flat.items (length codes.index.links.items) codes.index.heads.items codes.index.links.items → codes.width ≡ s.codes.width → HasCoded s.codes codes (code_now s) n → AreStates (record s { codes = codes })
+kept_states : (s : Store) (codes : Codes) (n : ℕ) → IsStore s → IsSound s.work → AreCodes codes.width codes.flat (length codes.index.links.items) codes.index.heads.items codes.index.links.items → codes.width ≡ s.codes.width → HasCoded s.codes codes (code_now s) n → AreStates (record s { codes = codes })
 kept_states s codes n is sound are width has =
     let now : List ℕ = code_now s in
-    let code : ℕ → List ℕ = code_at codes.width codes.flat.items in
+    let code : ℕ → List ℕ = code_at codes.width codes.flat in
     let known : IsKnown (record s { codes = codes }) now = record { tokens = is.tokens.lists.there; letters = is.letters.lists.there; mails = is.mails.lists.there; cpus = is.cpus.lists.there } in
     let K : List ℕ → Type 0 = λ ns. IsKnown (record s { codes = codes }) ns in
     let D : List ℕ → Plain = decoded s in
@@ -109,8 +109,8 @@ kept_states s codes n is sound are width has =
       width = width ∙ is.states.width;
       known = λ k h. elim (has.each k h) [
         | inl low ↦
-            let was : IsKnown s (code_at s.codes.width s.codes.flat.items k) = is.states.known k low in
-            let still : K (code_at s.codes.width s.codes.flat.items k) = record { tokens = was.tokens; letters = was.letters; mails = was.mails; cpus = was.cpus } in
+            let was : IsKnown s (code_at s.codes.width s.codes.flat k) = is.states.known k low in
+            let still : K (code_at s.codes.width s.codes.flat k) = record { tokens = was.tokens; letters = was.letters; mails = was.mails; cpus = was.cpus } in
             subst K (sym (has.same k low)) still
         | inr last ↦ subst K (sym (ap code last ∙ has.is)) known
       ];
@@ -121,10 +121,10 @@ kept_states s codes n is sound are width has =
     }
 
 -- which states are kept then
-kept_is : (s : Store) (codes : Codes) (n : ℕ) → IsStore s → HasCoded s.codes codes (code_now s) n → IsNumbered s.codes.width s.codes.flat.items (length s.codes.index.links.items) codes.flat.items (length codes.index.links.items) (code_now s) n → IsKept s.work (kept s) (kept (record s { codes = codes })) n
+kept_is : (s : Store) (codes : Codes) (n : ℕ) → IsStore s → HasCoded s.codes codes (code_now s) n → IsNumbered s.codes.width s.codes.flat (length s.codes.index.links.items) codes.flat (length codes.index.links.items) (code_now s) n → IsKept s.work (kept s) (kept (record s { codes = codes })) n
 kept_is s codes n is has (inl was) =
     let count : ℕ = length s.codes.index.links.items in
-    let state : ℕ → Plain = λ k. decoded s (code_at codes.width codes.flat.items k) in
+    let state : ℕ → Plain = λ k. decoded s (code_at codes.width codes.flat k) in
     let before : (k : ℕ) → k < count → state k ≡ state_of s k = λ k h. ap (decoded s) (has.same k h) in
     let here : state_of s n ≡ s.work = ap (decoded s) was.at.is ∙ sym (work_decoded s is) in
     inl (record {
@@ -134,7 +134,7 @@ kept_is s codes n is has (inl was) =
     })
 kept_is s codes n is has (inr now) =
     let count : ℕ = length s.codes.index.links.items in
-    let state : ℕ → Plain = λ k. decoded s (code_at codes.width codes.flat.items k) in
+    let state : ℕ → Plain = λ k. decoded s (code_at codes.width codes.flat k) in
     let before : (k : ℕ) → k < count → state k ≡ state_of s k = λ k h. ap (decoded s) (has.same k h) in
     let here : state n ≡ s.work = ap (decoded s) has.is ∙ sym (work_decoded s is) in
     let one : length codes.index.links.items ≡ suc count = now.one ∙ add-one count in
@@ -147,9 +147,9 @@ kept_is s codes n is has (inr now) =
           now.fresh k low (code_same s k is low (sym (first_at count (state_of s) k d low) ∙ e));
     })
 
-pub store_kept : (s : Store) (codes : Codes) (code : List ℕ) (n : ℕ) → IsStore s → IsSound s.work → code ≡ code_now s → AreCodes codes.width codes.flat.items (length codes.index.links.items) codes.index.heads.items codes.index.links.items → codes.width ≡ s.codes.width → IsNumbered s.codes.width s.codes.flat.items (length s.codes.index.links.items) codes.flat.items (length codes.index.links.items) code n → IsStore (record s { codes = codes }) × IsKept s.work (kept s) (kept (record s { codes = codes })) n
+pub store_kept : (s : Store) (codes : Codes) (code : List ℕ) (n : ℕ) → IsStore s → IsSound s.work → code ≡ code_now s → AreCodes codes.width codes.flat (length codes.index.links.items) codes.index.heads.items codes.index.links.items → codes.width ≡ s.codes.width → IsNumbered s.codes.width s.codes.flat (length s.codes.index.links.items) codes.flat (length codes.index.links.items) code n → IsStore (record s { codes = codes }) × IsKept s.work (kept s) (kept (record s { codes = codes })) n
 store_kept s codes code n is sound made are width numbered =
-    let N : List ℕ → Type 0 = λ ns. IsNumbered s.codes.width s.codes.flat.items (length s.codes.index.links.items) codes.flat.items (length codes.index.links.items) ns n in
+    let N : List ℕ → Type 0 = λ ns. IsNumbered s.codes.width s.codes.flat (length s.codes.index.links.items) codes.flat (length codes.index.links.items) ns n in
     let of_now : N (code_now s) = subst N made numbered in
     let has : HasCoded s.codes codes (code_now s) n = coded_by s.codes codes (code_now s) n is.states.codes (sym is.states.width) width of_now in
     (record { tokens = is.tokens; letters = is.letters; mails = is.mails; cpus = is.cpus; states = kept_states s codes n is sound are width has }, kept_is s codes n is has of_now)

@@ -10,7 +10,7 @@ lists_in s = length s.codes.index.links.items
 
 -- the numbers of the parts of the list of a number
 abbrev pub numbers_of : {P : Type 0} → Shelf P → ℕ → List ℕ
-numbers_of s k = code_at s.codes.width s.codes.flat.items k
+numbers_of s k = code_at s.codes.width s.codes.flat k
 
 -- the list of a number
 abbrev pub list_of : {P : Type 0} → Shelf P → ℕ → List P
@@ -19,7 +19,7 @@ list_of s k = named s.table.parts.items (numbers_of s k)
 -- parts and lists of them, each once; the list that is worked on has a number that is there
 pub record AreLists {P : Type 0} (hash : P → ℕ) (s : Shelf P) : Type 0 where
   pub table : IsTable hash s.table.parts.items s.table.index.heads.items s.table.index.links.items
-  pub codes : AreCodes s.codes.width s.codes.flat.items (lists_in s) s.codes.index.heads.items s.codes.index.links.items
+  pub codes : AreCodes s.codes.width s.codes.flat (lists_in s) s.codes.index.heads.items s.codes.index.links.items
   pub known : (k : ℕ) → k < lists_in s → All (λ n. n < length s.table.parts.items) (numbers_of s k)
   pub there : s.list < lists_in s
 

@@ -26,7 +26,7 @@ decoded s code = record {
 
 -- the state of a number
 abbrev pub state_of : Store → ℕ → Plain
-state_of s k = decoded s (code_at s.codes.width s.codes.flat.items k)
+state_of s k = decoded s (code_at s.codes.width s.codes.flat k)
 
 -- the states, by their numbers
 abbrev pub kept : Store → List Plain
@@ -41,9 +41,9 @@ pub record IsKnown (s : Store) (code : List ℕ) : Type 0 where
 
 -- codes of four numbers, each once, of sound states
 pub record AreStates (s : Store) : Type 0 where
-  pub codes : AreCodes s.codes.width s.codes.flat.items (length s.codes.index.links.items) s.codes.index.heads.items s.codes.index.links.items
+  pub codes : AreCodes s.codes.width s.codes.flat (length s.codes.index.links.items) s.codes.index.heads.items s.codes.index.links.items
   pub width : s.codes.width ≡ 4
-  pub known : (k : ℕ) → k < length s.codes.index.links.items → IsKnown s (code_at s.codes.width s.codes.flat.items k)
+  pub known : (k : ℕ) → k < length s.codes.index.links.items → IsKnown s (code_at s.codes.width s.codes.flat k)
   pub sound : (k : ℕ) → k < length s.codes.index.links.items → IsSound (state_of s k)
 
 -- a shelf of each kind with the parts of the state that is worked on, and the states

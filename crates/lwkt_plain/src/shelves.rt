@@ -1,5 +1,6 @@
 //! Lists of parts of one kind, each kept once.
 ghost use Rattle.std.specs.Prelude.{◌≡◌, ◌<◌, ◌≤◌, length, All, IfOk, Some, slice_get, slice_set};
+ghost use Rattle.lwkt_search.specs.Codes.{code_at, AreCodes};
 ghost use Rattle.lwkt_plain.specs.Tables.{IsTable, Extends, IsNamed, AreNamed};
 ghost use Rattle.lwkt_plain.specs.Shelves.{list_of, lists_in, numbers_of, AreLists, IsShelf, IsBaseShelf, HasLists};
 
@@ -46,22 +47,26 @@ fn load_one<P: Part>(
     Ok(())
 }
 
-// Makes parts those of these numbers, where they have others.
+// Makes parts those of the list of a number, where they have others.
 fn load<P: Part>(
     alloc: Global,
     table: &Table<P>,
     parts: &mut Items<P>,
     numbers: &mut Vec<u32>,
-    wanted: &[u32],
+    codes: &Codes,
+    list: usize,
 ) -> Result<(), Refusal>
-    requires long { length wanted.now ≡ length numbers.old.items }
-    requires known { All (λ n. n < length table.now.parts.items) wanted.now }
+    requires codes { AreCodes codes.now.width codes.now.flat (length codes.now.index.links.items) codes.now.index.heads.items codes.now.index.links.items }
+    requires there { list < length codes.now.index.links.items }
+    requires long { length numbers.old.items ≡ codes.now.width }
+    requires known { All (λ n. n < length table.now.parts.items) (code_at codes.now.width codes.now.flat list) }
     requires named { AreNamed table.now.parts.items parts.old numbers.old.items }
     ensures named { IfOk result (λ done. AreNamed table.now.parts.items parts.new numbers.new.items) }
-    ensures numbers { IfOk result (λ done. numbers.new.items ≡ wanted.now) }
+    ensures numbers { IfOk result (λ done. numbers.new.items ≡ code_at codes.now.width codes.now.flat list) }
 {
-    for k in 0..wanted.len() {
-        load_one(alloc, table, parts, numbers, k, wanted[k])?;
+    for k in 0..numbers.len() {
+        let number = codes.at(list, k);
+        load_one(alloc, table, parts, numbers, k, number)?;
     }
     Ok(())
 }
@@ -173,7 +178,8 @@ impl<P: Part> Shelf<P> {
             &self.table,
             parts,
             &mut self.numbers,
-            self.codes.code(number as usize),
+            &self.codes,
+            number as usize,
         )?;
         self.list = number;
         Ok(())
@@ -190,7 +196,10 @@ impl<P: Part> Shelf<P> {
         ensures table { IfOk result (λ done. self.new.table ≡ self.old.table) }
         ensures same { IfOk result (λ done. self.new.numbers ≡ self.old.numbers) }
     {
-        if self.codes.code(self.list as usize) == self.numbers.as_slice() {
+        if self
+            .codes
+            .is_at(self.list as usize, self.numbers.as_slice())
+        {
             return Ok(());
         }
         let number = self.codes.number(alloc, self.numbers.as_slice())?;
@@ -218,6 +227,6 @@ impl<P: Part> Shelf<P> {
         requires here { i < self.now.codes.width }
         ensures { slice_get (list_of self.now number) i ≡ Some result.now }
     {
-        self.table.part(self.codes.code(number as usize)[i])
+        self.table.part(self.codes.at(number as usize, i))
     }
 }

@@ -73,13 +73,16 @@ impl Store {
         ensures kept { IfOk result (λ done. kept self.new ≡ kept self.old) }
         ensures work { IfOk result (λ done. self.new.work ≡ state_of self.old at) }
     {
-        let code = self.codes.code(at);
+        let tokens = self.codes.at(at, 0);
         self.tokens
-            .go_to(self.alloc, &mut self.work.tokens, code[0])?;
+            .go_to(self.alloc, &mut self.work.tokens, tokens)?;
+        let letters = self.codes.at(at, 1);
         self.letters
-            .go_to(self.alloc, &mut self.work.letters, code[1])?;
-        self.mails.go_to(self.alloc, &mut self.work.mails, code[2])?;
-        self.cpus.go_to(self.alloc, &mut self.work.cpus, code[3])?;
+            .go_to(self.alloc, &mut self.work.letters, letters)?;
+        let mails = self.codes.at(at, 2);
+        self.mails.go_to(self.alloc, &mut self.work.mails, mails)?;
+        let cpus = self.codes.at(at, 3);
+        self.cpus.go_to(self.alloc, &mut self.work.cpus, cpus)?;
         Ok(())
     }
 
@@ -173,7 +176,7 @@ impl Store {
         requires here { c < length self.now.cpus.numbers.items }
         ensures { slice_get (state_of self.now at).cpus c ≡ Some result.now }
     {
-        self.cpus.part(self.codes.code(at)[3], c)
+        self.cpus.part(self.codes.at(at, 3), c)
     }
 
     /// The token of a number in the state of a number, if it is there.
@@ -185,7 +188,7 @@ impl Store {
         if t >= self.tokens.width() {
             return None;
         }
-        Some(self.tokens.part(self.codes.code(at)[0], t))
+        Some(self.tokens.part(self.codes.at(at, 0), t))
     }
 
     /// The message of a number in the state of a number, if it is there.
@@ -197,7 +200,7 @@ impl Store {
         if m >= self.letters.width() {
             return None;
         }
-        Some(self.letters.part(self.codes.code(at)[1], m))
+        Some(self.letters.part(self.codes.at(at, 1), m))
     }
 
     /// Whether all threads of a script have ended in the state of a number that are no services.

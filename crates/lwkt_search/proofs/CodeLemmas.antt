@@ -1,5 +1,5 @@
 use Rattle.std.proofs.Common.{◌≡◌, ℕ, ◌+◌, ◌-◌, ◌*◌, ◌<◌, ◌≤◌, List, [], ◌∷◌, ◌++◌, length, take, drop, length-append, arith, ap, subst, sym, refl, ◌∙◌, below_more}
-use Rattle.std.proofs.lemmas.List.{drop-append-le, take-append-le, length-drop, take_all}
+use Rattle.std.proofs.lemmas.List.{drop-append-le, take-append-le, length-drop, length-take-le, take_all}
 use Rattle.std.proofs.Math.Nat.{mul-le-mul_right, add-mul}
 use Rattle.std.proofs.Math.Seq.{drop-append_seam}
 use Rattle.lwkt_search.specs.Indexes.{IsIndex, IsAdded}
@@ -14,6 +14,14 @@ code_within width count k flat long there =
     let split : (k + 1) * width ≡ k * width + 1 * width = add-mul k 1 width in
     let one : 1 * width ≡ width = omega arith in
     omega arith
+
+-- a code is as long as it is wide
+pub code_long : (width count k : ℕ) (flat : List ℕ) → length flat ≡ count * width → k < count → length (code_at width flat k) ≡ width
+code_long width count k flat long there =
+    let within : k * width + width ≤ length flat = code_within width count k flat long there in
+    let rest : length (drop (k * width) flat) ≡ length flat - k * width = length-drop (k * width) flat in
+    let room : width ≤ length (drop (k * width) flat) = omega arith in
+    length-take-le width (drop (k * width) flat) room
 
 -- a code stays where another one comes behind
 pub code_left : (width count k : ℕ) (flat code : List ℕ) → length flat ≡ count * width → k < count → code_at width (flat ++ code) k ≡ code_at width flat k

@@ -1,18 +1,18 @@
 //! Codes: lists of numbers of one length, each kept once.
-ghost use Rattle.std.specs.Prelude.{◌≡◌, ◌↔◌, ℕ, ◌+◌, ◌<◌, ◌≤◌, ◌++◌, [], length, IsTrue, IfOk, MatchOption};
+ghost use Rattle.std.specs.Prelude.{◌≡◌, ◌↔◌, ℕ, ◌+◌, ◌*◌, ◌<◌, ◌≤◌, ◌++◌, [], length, IsTrue, IfOk, MatchOption, slice_index_or, take, drop};
 ghost use Rattle.lwkt_search.specs.Indexes.{IsIndex};
 ghost use Rattle.lwkt_search.specs.Codes.{mixed, key_behind, code_at, AreCodes, IsCoded, IsNumbered, IsUncoded};
 
 use crate::indexes::{Index, bucket_of};
+use crate::numbers::Numbers;
 use crate::refusals::{MOST_NUMBERS, Refusal};
-use lwkt_base::memory::extend_from_slice;
 use std::alloc::Global;
 
 /// Codes of one length, each once, by the numbers 0, 1, .. in the order in which they came.
 #[derive(Drop)]
 pub struct Codes {
-    pub(crate) width: usize,
-    pub(crate) flat: Vec<u32>,
+    pub(crate) width: u32,
+    pub(crate) flat: Numbers,
     pub(crate) index: Index,
 }
 
@@ -36,15 +36,20 @@ fn key_of(code: &[u32]) -> u64
 
 impl Codes {
     /// No codes, of this length.
+    ///
+    /// Refused if memory is, or if a code would have more than 4,294,967,295 numbers.
     pub fn new(alloc: Global, width: usize) -> Result<Codes, Refusal>
-        ensures codes { IfOk result (λ codes. AreCodes codes.width codes.flat.items (length codes.index.links.items) codes.index.heads.items codes.index.links.items) }
+        ensures codes { IfOk result (λ codes. AreCodes codes.width codes.flat (length codes.index.links.items) codes.index.heads.items codes.index.links.items) }
         ensures empty { IfOk result (λ codes. codes.index.links.items ≡ []) }
         ensures width { IfOk result (λ codes. codes.width ≡ width) }
     {
+        let Ok(narrow) = u32::try_from(width) else {
+            return Err(Refusal::Numbers);
+        };
         let index = Index::empty(alloc, 0)?;
         Ok(Codes {
-            width,
-            flat: Vec::new(alloc),
+            width: narrow,
+            flat: Numbers::none(alloc),
             index,
         })
     }
@@ -56,30 +61,54 @@ impl Codes {
         self.index.links.len()
     }
 
-    /// The code of a number.
-    pub fn code(&self, number: usize) -> &[u32]
-        requires codes { AreCodes self.now.width self.now.flat.items (length self.now.index.links.items) self.now.index.heads.items self.now.index.links.items }
-        requires there { number < length self.now.index.links.items }
-        ensures { result.now ≡ code_at self.now.width self.now.flat.items number }
+    // Where the code of a number begins.
+    fn start(&self, number: usize) -> usize
+        requires few { number < 4294967296 }
+        ensures is { result ≡ number * self.now.width }
+        ensures low { result + self.now.width < 18446744073709551616 }
     {
-        let start = number * self.width;
-        &self.flat[start..start + self.width]
+        number * self.width as usize
     }
 
-    // Whether the code of a number is this one.
-    fn is_at(&self, number: usize, code: &[u32]) -> bool
-        requires codes { AreCodes self.now.width self.now.flat.items (length self.now.index.links.items) self.now.index.heads.items self.now.index.links.items }
+    /// A number of the code of a number.
+    pub fn at(&self, number: usize, place: usize) -> u32
+        requires codes { AreCodes self.now.width self.now.flat (length self.now.index.links.items) self.now.index.heads.items self.now.index.links.items }
         requires there { number < length self.now.index.links.items }
-        ensures { IsTrue result ↔ (code_at self.now.width self.now.flat.items number ≡ code.now) }
+        requires within { place < self.now.width }
+        ensures { result ≡ slice_index_or (code_at self.now.width self.now.flat number) place 0 }
     {
-        self.code(number) == code
+        self.flat.at(self.start(number) + place)
+    }
+
+    /// Whether the code of a number is this one.
+    pub fn is_at(&self, number: usize, code: &[u32]) -> bool
+        requires codes { AreCodes self.now.width self.now.flat (length self.now.index.links.items) self.now.index.heads.items self.now.index.links.items }
+        requires there { number < length self.now.index.links.items }
+        requires long { length code.now ≡ self.now.width }
+        ensures { IsTrue result ↔ (code_at self.now.width self.now.flat number ≡ code.now) }
+    {
+        self.flat.are_at(self.start(number), code)
+    }
+
+    // The key of the code of a number.
+    fn key_at(&self, number: usize) -> u64
+        requires codes { AreCodes self.now.width self.now.flat (length self.now.index.links.items) self.now.index.heads.items self.now.index.links.items }
+        requires there { number < length self.now.index.links.items }
+        ensures { result ≡ key_behind 0 (code_at self.now.width self.now.flat number) }
+    {
+        let mut key = 0u64;
+        for place in 0..self.width as usize {
+            key = mixed(key, u64::from(self.at(number, place)));
+        }
+        key
     }
 
     // The number of a code with this key, if it is there.
     fn find(&self, code: &[u32], key: u64) -> Option<usize>
-        requires codes { AreCodes self.now.width self.now.flat.items (length self.now.index.links.items) self.now.index.heads.items self.now.index.links.items }
+        requires codes { AreCodes self.now.width self.now.flat (length self.now.index.links.items) self.now.index.heads.items self.now.index.links.items }
         requires key { key ≡ key_behind 0 code.now }
-        ensures { MatchOption result (IsUncoded self.now.width self.now.flat.items (length self.now.index.links.items) code.now) (λ at. IsCoded self.now.width self.now.flat.items (length self.now.index.links.items) code.now at) }
+        requires long { length code.now ≡ self.now.width }
+        ensures { MatchOption result (IsUncoded self.now.width self.now.flat (length self.now.index.links.items) code.now) (λ at. IsCoded self.now.width self.now.flat (length self.now.index.links.items) code.now at) }
     {
         let bucket = bucket_of(key, self.index.heads.len());
         let mut up = self.index.heads[bucket];
@@ -95,11 +124,11 @@ impl Codes {
 
     // Makes a wider index where there are twice as many codes as buckets.
     fn widen(&mut self, alloc: Global) -> Result<(), Refusal>
-        requires codes { AreCodes self.old.width self.old.flat.items (length self.old.index.links.items) self.old.index.heads.items self.old.index.links.items }
+        requires codes { AreCodes self.old.width self.old.flat (length self.old.index.links.items) self.old.index.heads.items self.old.index.links.items }
         ensures width { IfOk result (λ done. self.new.width ≡ self.old.width) }
         ensures same { IfOk result (λ done. self.new.flat ≡ self.old.flat) }
         ensures count { IfOk result (λ done. length self.new.index.links.items ≡ length self.old.index.links.items) }
-        ensures codes { IfOk result (λ done. AreCodes self.new.width self.new.flat.items (length self.new.index.links.items) self.new.index.heads.items self.new.index.links.items) }
+        ensures codes { IfOk result (λ done. AreCodes self.new.width self.new.flat (length self.new.index.links.items) self.new.index.heads.items self.new.index.links.items) }
     {
         let count = self.len();
         if count / 2 < self.index.heads.len() {
@@ -107,7 +136,7 @@ impl Codes {
         }
         let mut index = Index::empty(alloc, count / 2)?;
         for at in 0..count {
-            index.add(key_of(self.code(at)))?;
+            index.add(self.key_at(at))?;
         }
         self.index = index;
         Ok(())
@@ -115,13 +144,13 @@ impl Codes {
 
     // Adds a code that isn't there.
     fn add(&mut self, alloc: Global, code: &[u32], key: u64) -> Result<usize, Refusal>
-        requires codes { AreCodes self.old.width self.old.flat.items (length self.old.index.links.items) self.old.index.heads.items self.old.index.links.items }
+        requires codes { AreCodes self.old.width self.old.flat (length self.old.index.links.items) self.old.index.heads.items self.old.index.links.items }
         requires long { length code.now ≡ self.old.width }
         requires key { key ≡ key_behind 0 code.now }
-        requires fresh { IsUncoded self.old.width self.old.flat.items (length self.old.index.links.items) code.now }
-        ensures codes { IfOk result (λ number. AreCodes self.new.width self.new.flat.items (length self.new.index.links.items) self.new.index.heads.items self.new.index.links.items) }
+        requires fresh { IsUncoded self.old.width self.old.flat (length self.old.index.links.items) code.now }
+        ensures codes { IfOk result (λ number. AreCodes self.new.width self.new.flat (length self.new.index.links.items) self.new.index.heads.items self.new.index.links.items) }
         ensures width { IfOk result (λ number. self.new.width ≡ self.old.width) }
-        ensures more { IfOk result (λ number. self.new.flat.items ≡ self.old.flat.items ++ code.now) }
+        ensures more { IfOk result (λ number. self.new.flat ≡ self.old.flat ++ code.now) }
         ensures count { IfOk result (λ number. length self.new.index.links.items ≡ length self.old.index.links.items + 1) }
         ensures number { IfOk result (λ number. number ≡ length self.old.index.links.items) }
     {
@@ -131,7 +160,7 @@ impl Codes {
         }
         self.widen(alloc)?;
         self.index.add(key)?;
-        extend_from_slice(&mut self.flat, code)?;
+        self.flat.extend(code)?;
         Ok(place)
     }
 
@@ -139,11 +168,11 @@ impl Codes {
     ///
     /// Refused if memory is, or if there is no number left.
     pub fn number(&mut self, alloc: Global, code: &[u32]) -> Result<usize, Refusal>
-        requires codes { AreCodes self.old.width self.old.flat.items (length self.old.index.links.items) self.old.index.heads.items self.old.index.links.items }
+        requires codes { AreCodes self.old.width self.old.flat (length self.old.index.links.items) self.old.index.heads.items self.old.index.links.items }
         requires long { length code.now ≡ self.old.width }
-        ensures codes { IfOk result (λ number. AreCodes self.new.width self.new.flat.items (length self.new.index.links.items) self.new.index.heads.items self.new.index.links.items) }
+        ensures codes { IfOk result (λ number. AreCodes self.new.width self.new.flat (length self.new.index.links.items) self.new.index.heads.items self.new.index.links.items) }
         ensures width { IfOk result (λ number. self.new.width ≡ self.old.width) }
-        ensures numbered { IfOk result (λ number. IsNumbered self.old.width self.old.flat.items (length self.old.index.links.items) self.new.flat.items (length self.new.index.links.items) code.now number) }
+        ensures numbered { IfOk result (λ number. IsNumbered self.old.width self.old.flat (length self.old.index.links.items) self.new.flat (length self.new.index.links.items) code.now number) }
         ensures few { IfOk result (λ number. number < 4294967295) }
     {
         let key = key_of(code);

@@ -12,6 +12,7 @@ pub mod indexes;
 mod links;
 mod losses;
 mod machines;
+pub mod numbers;
 mod refusals;
 mod rows;
 mod searches;

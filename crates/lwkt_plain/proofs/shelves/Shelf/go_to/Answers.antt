@@ -13,5 +13,5 @@ returns-then-number-self-clause-parts g c =
 pub returns-clause-parts : goal.returns-clause-parts
 returns-clause-parts g c =
     let table = c.args.self.now.table.parts.items in
-    let is = c.in_ok-load.ensures.numbers ∙ c.code.ensures in
+    let is = c.in_ok-load.ensures.numbers in
     named_by table c.load.new.parts c.load.new.numbers.items c.in_ok-load.ensures.named ∙ ap (λ (ns : List ℕ). named table ns) is

@@ -10,8 +10,8 @@ part-requires g c =
     let s = c.args.self.now in
     let k = c.args.number in
     let there : c.args.i < length (numbers_of s k) = omega (arith, c.requires.here, numbers_long g.P.Part.hash_of s k c.requires.lists c.requires.there) in
-    let B : List ℕ → Type 0 = λ ns. slice_index_or ns c.args.i 0 < length s.table.parts.items in
-    subst B (sym c.code.ensures) (c.requires.lists.known k c.requires.there c.args.i 0 there)
+    let B : ℕ → Type 0 = λ n. n < length s.table.parts.items in
+    subst B (sym c.at.ensures) (c.requires.lists.known k c.requires.there c.args.i 0 there)
 
 pub returns : goal.returns
 returns g c =
@@ -19,5 +19,5 @@ returns g c =
     let k = c.args.number in
     let p = c.part.result.now in
     let there : c.args.i < length (numbers_of s k) = omega (arith, c.requires.here, numbers_long g.P.Part.hash_of s k c.requires.lists c.requires.there) in
-    let N : List ℕ → Type 0 = λ ns. IsNamed s.table.parts.items (slice_index_or ns c.args.i 0) p in
-    named_get s.table.parts.items (numbers_of s k) c.args.i p (c.requires.lists.known k c.requires.there) there (subst N c.code.ensures c.part.ensures)
+    let N : ℕ → Type 0 = λ n. IsNamed s.table.parts.items n p in
+    named_get s.table.parts.items (numbers_of s k) c.args.i p (c.requires.lists.known k c.requires.there) there (subst N c.at.ensures c.part.ensures)

@@ -1,19 +1,22 @@
-use Rattle.std.proofs.Common.{◌≡◌, length, arith}
+use Rattle.std.proofs.Common.{◌≡◌, ℕ, ◌<◌, ◌≤◌, length, arith, subst, sym}
 use Rattle.lwkt_plain.specs.Stores.{state_of}
-use Rattle.lwkt_plain.proofs.StoreLemmas.{code_of, kept_there, letters_kept}
+use Rattle.lwkt_plain.specs.Shelves.{lists_in}
+use Rattle.lwkt_plain.proofs.StoreLemmas.{kept_there, letters_kept}
 use Rattle.lwkt_plain.proofs.stores.Store.letter.Goals as goal
 
-pub code-requires-clause-there : goal.code-requires-clause-there
-code-requires-clause-there c = kept_there c.args.self.now c.args.at c.requires.there
+pub at-requires-clause-there : goal.at-requires-clause-there
+at-requires-clause-there c = kept_there c.args.self.now c.args.at c.requires.there
 
-pub bounds-code-1 : goal.bounds-code-1
-bounds-code-1 c =
-    let s = c.args.self.now in
-    let long : length c.code.result.now ≡ 4 = (code_of s c.args.at c.code.result.now c.requires.store (kept_there s c.args.at c.requires.there) c.code.ensures).long in
-    omega (arith, long)
+pub at-requires-clause-within : goal.at-requires-clause-within
+at-requires-clause-within c =
+    let wide : c.args.self.now.codes.width ≡ 4 = c.requires.store.states.width in
+    omega arith
 
 pub part-requires-clause-there : goal.part-requires-clause-there
-part-requires-clause-there c = let s = c.args.self.now in (code_of s c.args.at c.code.result.now c.requires.store (kept_there s c.args.at c.requires.there) c.code.ensures).known.letters
+part-requires-clause-there c =
+    let s = c.args.self.now in
+    let F : ℕ → Type 0 = λ n. n < lists_in s.letters in
+    subst F (sym c.at.ensures) (c.requires.store.states.known c.args.at (kept_there s c.args.at c.requires.there)).letters
 
 pub returns-then-m-width : goal.returns-then-m-width
 returns-then-m-width c =

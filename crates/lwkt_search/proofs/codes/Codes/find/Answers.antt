@@ -8,7 +8,7 @@ use Rattle.lwkt_search.proofs.codes.Codes.find.Goals as goal
 pub loop-up-init : goal.loop-up-init
 loop-up-init c =
     let width = c.args.self.now.width in
-    let flat = c.args.self.now.flat.items in
+    let flat = c.args.self.now.flat in
     let heads = c.args.self.now.index.heads.items in
     let links = c.args.self.now.index.links.items in
     let code = c.args.code.now in
@@ -26,7 +26,7 @@ loop-up-init c =
 pub loop-up-preserved : goal.loop-up-preserved
 loop-up-preserved c =
     let width = c.args.self.now.width in
-    let flat = c.args.self.now.flat.items in
+    let flat = c.args.self.now.flat in
     let heads = c.args.self.now.index.heads.items in
     let links = c.args.self.now.index.links.items in
     let code = c.args.code.now in

@@ -7,16 +7,16 @@ use Rattle.lwkt_search.proofs.codes.Codes.widen.Goals as goal
 pub loop-at-preserved : goal.loop-at-preserved
 loop-at-preserved c =
     let width = c.args.self.now.width in
-    let flat = c.args.self.now.flat.items in
+    let flat = c.args.self.now.flat in
     record {
       end = c.loop-at.invariant.end;
-      index = c.in_ok-add.ensures (λ k. key_behind 0 (code_at width flat k)) c.loop-at.at c.loop-at.invariant.index (sym (c.key_of.ensures ∙ ap (key_behind 0) c.code.ensures));
+      index = c.in_ok-add.ensures (λ k. key_behind 0 (code_at width flat k)) c.loop-at.at c.loop-at.invariant.index (sym c.key_at.ensures);
     }
 
 pub returns-clause-codes : goal.returns-clause-codes
 returns-clause-codes c =
     let width = c.args.self.now.width in
-    let flat = c.args.self.now.flat.items in
+    let flat = c.args.self.now.flat in
     let links = c.args.self.now.index.links.items in
     let heads' = c.loop-at.index.heads.items in
     let links' = c.loop-at.index.links.items in

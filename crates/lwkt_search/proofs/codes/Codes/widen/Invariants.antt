@@ -6,5 +6,5 @@ use Rattle.lwkt_search.proofs.codes.Codes.widen.Given as goal
 abbrev pub invariant-loop-at : goal.invariant-loop-at
 invariant-loop-at l = record {
   end : l.count ≡ length l.self.index.links.items;
-  index : IsIndex (λ k. key_behind 0 (code_at l.self.width l.self.flat.items k)) l.index.heads.items l.index.links.items l.at;
+  index : IsIndex (λ k. key_behind 0 (code_at l.self.width l.self.flat k)) l.index.heads.items l.index.links.items l.at;
 }
