@@ -6,7 +6,7 @@ use Rattle.lwkt_explore.proofs.searches.stands_at.Goals as goal
 
 pub order-requires-clause-there : goal.order-requires-clause-there
 order-requires-clause-there g c =
-    let is = c.requires.searched in
+    let is = c.requires.way.searched in
     let states = kept c.args.found.now.growth.store in
     let links = c.args.found.now.growth.links.items in
     let count : length (nodes_of states links) ≡ length states = nodes_long states links is.noted in
@@ -15,4 +15,4 @@ order-requires-clause-there g c =
     omega (arith, count, within, c.requires.there, noted)
 
 pub returns-in_ok-add-clause-short : goal.returns-in_ok-add-clause-short
-returns-in_ok-add-clause-short g c = c.add.ensures.short c.args.task.now.turns (omega arith) c.requires.short
+returns-in_ok-add-clause-short g c = c.add.ensures.short c.args.task.now.turns (omega arith) c.requires.way.short
