@@ -8,6 +8,7 @@ pub mod Mailing
 pub mod Openings
 pub mod Places
 pub mod Shelves
+pub mod Sizes
 pub mod Sound
 pub mod Stores
 pub mod Tables

@@ -364,6 +364,7 @@ impl<M: Machine> Task<M> {
             states: links.len(),
             frontier: links.len() - at,
             turns: next.len() as u64,
+            bytes: self.machine.bytes(store),
         };
         if !watch.goes_on(seen) {
             return Ok(Some(Bound::Stopped));
