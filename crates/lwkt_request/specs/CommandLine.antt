@@ -24,9 +24,9 @@ run = with_rule (with_rule (with_rule (new_app (codes "run")) (flag (codes "thre
 
 abbrev pub show : App
 show =
-    with_rule (with_rule (with_rule (with_rule (with_rule (with_rule (with_rule (with_rule (with_rule (new_app (codes "show"))
+    with_rule (with_rule (with_rule (with_rule (with_rule (with_rule (with_rule (with_rule (with_rule (with_rule (new_app (codes "show"))
     (flag (codes "threads"))) (valued (codes "order"))) (valued (codes "turns"))) (valued (codes "rounds")))
-    (flag (codes "svg"))) (flag (codes "trace"))) (flag (codes "chains"))) (flag (codes "numbers"))) file
+    (flag (codes "svg"))) (flag (codes "trace"))) (flag (codes "chains"))) (valued (codes "format"))) (flag (codes "numbers"))) file
 
 abbrev pub check : App
 check = with_rule (with_rule (new_app (codes "check")) (flag (codes "lines"))) file

@@ -7,7 +7,7 @@ use Rattle.clap.specs.Words.{Row, Text, first_of, found_of, rows_of}
 use Rattle.clap.specs.declared.parser.matches.ArgMatches.{ArgMatches}
 use Rattle.lwkt_request.specs.declared.ranges.Range.{Range}
 use Rattle.lwkt_show.specs.declared.options.Rendering.{Rendering}
-use Rattle.lwkt_show.specs.declared.options.Rendering.TheVariants.{Lines, Trace, Picture, Chains}
+use Rattle.lwkt_show.specs.declared.options.Rendering.TheVariants.{Lines, Trace, Picture, Chains, Player, Timeline}
 use Rattle.lwkt_show.specs.declared.options.Options.{Options}
 use Rattle.lwkt_explore.specs.declared.searches.Method.TheVariants.{Plain, Reduced}
 use Rattle.lwkt_request.specs.declared.requests.Form.{Form}
@@ -39,12 +39,26 @@ rendering_of false true false = Some Picture
 rendering_of false false true = Some Chains
 rendering_of _ _ _ = None
 
+-- the view that `--format` names: a picture, a page that plays the run, or a timeline
+abbrev pub format_named : Text → Option Rendering
+format_named format =
+    if bytes_eq format (codes "svg") then Some Picture
+    else (if bytes_eq format (codes "html") then Some Player
+    else (if bytes_eq format (codes "perfetto") then Some Timeline else None))
+
+-- the view that these options ask for; none if `--format` is named beside another one
+abbrev pub view_of : Bool → Bool → Bool → Option Text → Option Rendering
+view_of trace svg chains None = rendering_of trace svg chains
+view_of trace svg chains (Some format) = if trace || (svg || chains) then None else format_named format
+
 -- whether a view is of turns that are chosen, and not of the whole run
 abbrev pub has_range : Rendering → Bool
 has_range Lines = true
 has_range Trace = false
 has_range Picture = true
 has_range Chains = false
+has_range Player = true
+has_range Timeline = true
 
 abbrev pub is_whole : Range → Bool
 is_whole range = range.first == 0 && range.last == no_end
@@ -68,16 +82,16 @@ fits_order order rounds = option_map_or (λ text. list_all is_part text && not (
 abbrev pub fits : Bool → Rendering → Option Text → Option Text → Option Text → Bool
 fits on_threads rendering order turns rounds = if on_threads then fits_threads rendering order turns rounds else fits_order order rounds
 
-abbrev pub shown : Bool → Option Text → Option Text → Option Text → Bool → Bool → Bool → Bool → Option Task
-shown on_threads order turns rounds svg trace chains in_numbers =
+abbrev pub shown : Bool → Option Text → Option Text → Option Text → Bool → Bool → Bool → Option Text → Bool → Option Task
+shown on_threads order turns rounds svg trace chains format in_numbers =
     option_and_then (λ rendering. option_and_then (λ range. option_and_then (λ options.
     if fits on_threads rendering order turns rounds then Some (Show on_threads in_numbers options) else None)
-    (options_of rendering range)) (range_named turns rounds)) (rendering_of trace svg chains)
+    (options_of rendering range)) (range_named turns rounds)) (view_of trace svg chains format)
 
 abbrev pub show_in : List Row → Option Task
 show_in rows =
     shown (is_on (codes "threads") rows) (first_of (codes "order") rows) (first_of (codes "turns") rows) (first_of (codes "rounds") rows)
-    (is_on (codes "svg") rows) (is_on (codes "trace") rows) (is_on (codes "chains") rows) (is_on (codes "numbers") rows)
+    (is_on (codes "svg") rows) (is_on (codes "trace") rows) (is_on (codes "chains") rows) (first_of (codes "format") rows) (is_on (codes "numbers") rows)
 
 -- ---- text
 

@@ -184,6 +184,13 @@ fn show_command<'a>(alloc: Global) -> Built<'a>
         "chains",
         "List the written sections of each token",
     );
+    let command = with_value(
+        alloc,
+        command,
+        "format",
+        "FORMAT",
+        "Write a picture svg, a page html or a timeline perfetto",
+    );
     let command = with_flag(
         alloc,
         command,
