@@ -6,6 +6,7 @@ use Rattle.lwkt_explore.specs.declared.searches.Found.{Found}
 use Rattle.lwkt_explore.specs.Expectations.{status_of_text}
 use Rattle.lwkt_explore.specs.Extents.{is_complete}
 use Rattle.lwkt_explore.specs.Judgements.{judgement_of, status_of_judgement}
+use Rattle.lwkt_explore.specs.Rounds.{AreRounds}
 use Rattle.lwkt_explore.specs.Outcomes.{AreOutcomes, AreShort, AreWhole, HasEnded}
 use Rattle.lwkt_explore.specs.declared.forms.Telling.{Telling}
 use Rattle.lwkt_explore.specs.Texts.{text_of_found, told_of_found}
@@ -50,7 +51,7 @@ pub record IsReport (mode : Mode) (wording : Wording) (input : Input) (text : Li
   pub closing : Closing
   pub closes : MayCloseBy mode input.script closing
   pub is_text : text ≡ report_in wording input closing
-  pub is_status : status ≡ status_of_judgement (judgement_of input.expectations closing)
+  pub is_status : status ≡ status_of_judgement (judgement_of input.expectations mode closing)
 
 -- the names in which a run is shown: those of a text, unless numbers are asked for
 abbrev pub names_in : Bool → Input → Option Names
@@ -118,8 +119,10 @@ IsFindingIn false input found text = IsNamedFinding input.names input.script fou
 pub record IsFinding (search : Search) (input : Input) (text : List ℕ) (status : ℕ) : Type 0 where
   pub found : Found
   pub is_found : IsFound search input.script found
+  pub rounds : Option Closing
+  pub are_rounds : AreRounds input.script input.expectations rounds
   pub is_text : IsFindingIn search.in_numbers input found text
-  pub is_status : status ≡ status_of_text input.expectations found
+  pub is_status : status ≡ status_of_text input.expectations rounds found
 
 -- what a task makes of an input, with this order, if one is named; a check takes none
 abbrev pub IsMade : Task → Option (List ℕ) → Input → List ℕ → ℕ → Type 0

@@ -9,10 +9,10 @@ use crate::tickers::Ticker;
 use crate::written::Made;
 use lwkt_base::{Fault, OutOfMemory};
 use lwkt_explore::{
-    Found, Telling, explore, quoted_verdicts_of, sample, status_of_text, text_of, told_text_of,
-    verdicts_of,
+    Found, Telling, explore, quoted_verdicts_of, rounds_of, sample, status_of_text, text_of,
+    told_text_of, verdicts_of,
 };
-use lwkt_report::Sink;
+use lwkt_report::{Closing, Sink};
 use lwkt_request::Search;
 use lwkt_script::Script;
 use lwkt_text::claims::Expectation;
@@ -91,12 +91,13 @@ fn verdicts_in(
     paints: bool,
     bytes: &[u8],
     expectations: &[Expectation],
+    rounds: &Option<Closing>,
     found: &Found,
 ) -> Result<String, OutOfMemory> {
     if in_numbers {
-        verdicts_of(alloc, bytes, expectations, found)
+        verdicts_of(alloc, bytes, expectations, rounds, found)
     } else {
-        quoted_verdicts_of(alloc, paints, bytes, expectations, found)
+        quoted_verdicts_of(alloc, paints, bytes, expectations, rounds, found)
     }
 }
 
@@ -115,6 +116,7 @@ pub fn finding_of<R: Clock, E: Sink>(
 {
     let found = found_of(rt, alloc, search, &input.script, errors)?;
     let expectations = input.expectations.as_slice();
+    let rounds = rounds_of(alloc, &input.script, expectations)?;
     let text = text_in(alloc, search.in_numbers, input, &found)?;
     let verdicts = verdicts_in(
         alloc,
@@ -122,9 +124,10 @@ pub fn finding_of<R: Clock, E: Sink>(
         paints,
         bytes,
         expectations,
+        &rounds,
         &found,
     )?;
-    let status = status_of_text(expectations, &found);
+    let status = status_of_text(expectations, &rounds, &found);
     Ok(Made {
         text,
         status,
