@@ -8,14 +8,19 @@
 #![tactic(auto)]
 
 pub mod codes;
+mod fairness;
+mod finders;
 pub mod indexes;
 mod losses;
 mod machines;
 mod refusals;
 mod searches;
+mod times;
 
 pub use codes::Codes;
+pub use fairness::{Eventually, Lasso, holds_eventually};
 pub use losses::lost_states;
 pub use machines::{Machine, Seen, Watch};
 pub use refusals::{MOST_NUMBERS, Refusal};
 pub use searches::{Bound, Found, Growth, Link, Outcome, Task, UNTRIED};
+pub use times::{Judge, at_all_times};

@@ -83,7 +83,7 @@ pub struct Found<K> {
 }
 
 // Whether a set of processors has one.
-fn has(set: u8, cpu: u8) -> bool {
+pub(crate) fn has(set: u8, cpu: u8) -> bool {
     cpu < 8 && (set >> cpu) & 1 == 1
 }
 
