@@ -202,7 +202,7 @@ falls {S} turn start cpus kept holds ranks movers state order (suc r) n most ran
 -- a certificate that it holds at last
 pub holds_by_ranks : {S : Type 0} (turn : S → ℕ → S) (start : S) (cpus : ℕ) (kept : List S) (holds : S → Bool) (ranks movers : List ℕ) → IsClosed turn start cpus kept → ((at : ℕ) → at < length kept → IsFalse (holds (slice_index_or kept at start)) → IsRanked turn start cpus kept holds ranks movers at) → HoldsEventually turn cpus start holds
 unfolding AreRanked
-holds_by_ranks {S} turn start cpus kept holds ranks movers closed ranked first below order endless fair =
+holds_by_ranks {S} turn start cpus kept holds ranks movers closed ranked = λ first below order endless fair.
     let state : S = run turn start first in
     let k : IsKept start kept state = kept_run turn start cpus kept first start closed below (record { place = 0; there = closed.some; is = closed.first }) in
     let rank : ℕ = slice_index_or ranks k.place 0 in
@@ -221,7 +221,7 @@ run_append turn state (c ∷ order) cpu = run_append turn (turn state c) order c
 
 -- each number of a list is below a limit
 pub below_of : (part : List ℕ) (cpus : ℕ) → ((k : ℕ) → k < length part → slice_index_or part k 0 < cpus) → IsOrder cpus part
-below_of part cpus each k d there =
+below_of part cpus each = λ k d there.
     let same : slice_index_or part k 0 ≡ slice_index_or part k d = get_or_default part k 0 d there in
     let less : slice_index_or part k 0 < cpus = each k there in
     omega arith
@@ -242,7 +242,7 @@ part_from {S} turn state part q (suc k) begun small =
     let n : ℕ = q * length part + k in
     let A : ℕ → Type 0 = λ m. state_at turn state (repeated part) m ≡ run turn state (take (suc k) part) in
     let e : suc n ≡ q * length part + suc k = omega arith in
-    let at : repeated part n ≡ slice_index_or part k 0 = ap (λ i. slice_index_or part i 0) (mod-mul-add q (length part) k there) in
+    let at : repeated part n ≡ slice_index_or part k 0 = ap (λ (i : ℕ). slice_index_or part i 0) (mod-mul-add q (length part) k there) in
     let T : ℕ → Type 0 = λ c. state_at turn state (repeated part) (suc n) ≡ turn (state_at turn state (repeated part) n) c in
     let U : S → Type 0 = λ s. state_at turn state (repeated part) (suc n) ≡ turn s (slice_index_or part k 0) in
     let step : state_at turn state (repeated part) (suc n) ≡ turn (run turn state (take k part)) (slice_index_or part k 0) = subst U (part_from turn state part q k begun low) (subst T at refl) in
@@ -289,7 +289,7 @@ avoided_by {S} turn cpus start holds first part state below leads round served =
     let at : state_at turn state (repeated part) m ≡ run turn state (take s.moment part) = part_on turn state part n s.moment within round.back in
     let I : S → Type 0 = λ x. turn x cpu ≡ x in
     let or : (repeated part m ≡ cpu) ⊎ (turn (state_at turn state (repeated part) m) cpu ≡ state_at turn state (repeated part) m) = elim (s.served) [
-      | inl turns ↦ inl (ap (λ i. slice_index_or part i 0) is ∙ turns)
+      | inl turns ↦ inl (ap (λ (i : ℕ). slice_index_or part i 0) is ∙ turns)
       | inr idle ↦ inr (subst I (sym at) idle)
     ]
     in

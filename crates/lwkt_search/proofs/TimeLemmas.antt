@@ -22,7 +22,7 @@ order_of i j = grind arith
 
 -- no order leads sooner to a state at which it fails, since states are found by their depths
 pub soonest_told : {S : Type 0} (turn : S → ℕ → S) (start : S) (cpus : ℕ) (kept : List S) (links : List Link) (next : List ℕ) (gone_on : ℕ) (holds : S → Bool) (at : ℕ) (told : Told S) → length links ≡ length kept → IsGrown turn start cpus (nodes_of kept links) next gone_on → IsFullOf turn start cpus (nodes_of kept links) → IsFirstFailing start kept holds at → IsTold turn start cpus (nodes_of kept links) at told → IsSoonest turn cpus start holds told
-soonest_told {S} turn start cpus kept links next gone_on holds at told long grown full first is order below fails =
+soonest_told {S} turn start cpus kept links next gone_on holds at told long grown full first is = λ order below fails.
     let nodes : List (Node S) = nodes_of kept links in
     let count : length nodes ≡ length kept = nodes_long kept links long in
     let r : IsReached (length nodes) (node_at start nodes) (run turn start order) (length order) = reached_from_start turn start cpus (length nodes) (node_at start nodes) order full below in
@@ -38,7 +38,7 @@ soonest_told {S} turn start cpus kept links next gone_on holds at told long grow
 
 -- where each turn was tried, it holds at all times if it does so at each kept state
 pub always_kept : {S : Type 0} (turn : S → ℕ → S) (start : S) (cpus : ℕ) (kept : List S) (links : List Link) (holds : S → Bool) (count : ℕ) → length links ≡ length kept → count ≡ length kept → IsFullOf turn start cpus (nodes_of kept links) → HoldsBefore start kept holds count → HoldsAlways turn cpus start holds
-always_kept {S} turn start cpus kept links holds count long all full each order below =
+always_kept {S} turn start cpus kept links holds count long all full each = λ order below.
     let nodes : List (Node S) = nodes_of kept links in
     let same : length nodes ≡ length kept = nodes_long kept links long in
     let r : IsReached (length nodes) (node_at start nodes) (run turn start order) (length order) = reached_from_start turn start cpus (length nodes) (node_at start nodes) order full below in

@@ -27,3 +27,6 @@ loop-cpu-preserved g c =
       closed = closed_same c.loop-cpu.invariant.closed c.in_ok-yes.ensures.same;
       sink = below_more P c.loop-cpu.cpu c.loop-cpu.invariant.sink (subst Q c.loop-cpu.invariant.same (c.in_ok-yes.ensures.sinks c.if-not-yes.false));
     }
+
+pub returns-then-not-yes-clause-same : goal.returns-then-not-yes-clause-same
+returns-then-not-yes-clause-same g c = c.in_ok-yes.ensures.same ∙ c.loop-cpu.invariant.same

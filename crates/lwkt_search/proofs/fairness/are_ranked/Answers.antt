@@ -27,3 +27,6 @@ pub is_ranked-requires-clause-long : goal.is_ranked-requires-clause-long
 is_ranked-requires-clause-long g c =
     let same : length (g.M.Machine.kept c.loop-at.store) ≡ length (g.M.Machine.kept c.args.store.now) = ap length c.loop-at.invariant.same in
     omega (arith, c.requires.count, c.requires.long)
+
+pub returns-then-not-yes-clause-same : goal.returns-then-not-yes-clause-same
+returns-then-not-yes-clause-same g c = c.in_ok-yes.ensures.same ∙ c.loop-at.invariant.same

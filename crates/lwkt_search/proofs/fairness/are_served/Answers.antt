@@ -21,3 +21,6 @@ pub is_served-requires-clause-there : goal.is_served-requires-clause-there
 is_served-requires-clause-there g c =
     let same : length (g.M.Machine.kept c.loop-cpu.store) ≡ length (g.M.Machine.kept c.args.store.now) = ap length c.loop-cpu.invariant.same in
     omega (arith, c.requires.there)
+
+pub returns-then-not-yes-clause-same : goal.returns-then-not-yes-clause-same
+returns-then-not-yes-clause-same g c = c.in_ok-yes.ensures.same ∙ c.loop-cpu.invariant.same

@@ -1,4 +1,5 @@
-use Rattle.std.proofs.Common.{◌≡◌, ◌+◌, ◌<◌, ◌∙◌, ℕ, List, length, arith, ap, subst, sym, true≢false}
+use Rattle.std.proofs.Common.{◌≡◌, ◌+◌, ◌<◌, ◌∙◌, ℕ, List, length, arith, ap, subst, sym, true≢false, slice_index_or}
+use Rattle.std.proofs.lemmas.List.{get_or_default}
 use Rattle.lwkt_search.specs.Fairness.{Sinks}
 use Rattle.lwkt_search.proofs.FairLemmas.{closed_same}
 use Rattle.lwkt_search.proofs.fairness.is_ranked.Goals as goal
@@ -21,3 +22,24 @@ all_sink-requires-clause-long g c =
 
 pub returns-clause-same : goal.returns-clause-same
 returns-clause-same g c = c.in_ok-stays.ensures.same ∙ c.in_ok-moves.ensures.same
+
+pub returns-clause-ranked : goal.returns-clause-ranked
+returns-clause-ranked g c = λ yes fails.
+    let turn = g.M.Machine.turn_of c.args.task.now.machine in
+    let start = g.M.Machine.start_of c.args.task.now.machine in
+    let cpus = c.args.task.now.cpus in
+    let old = g.M.Machine.kept c.args.store.now in
+    let holds = g.J.Judge.holds_of c.args.claim.now in
+    let ranks = c.args.ranks.now in
+    let movers = c.args.movers.now in
+    let rank : ℕ = slice_index_or ranks c.args.at 0 in
+    let in_movers : rank < length movers = omega arith in
+    let same : slice_index_or movers rank 0 ≡ slice_index_or movers rank cpus = get_or_default movers rank 0 cpus in_movers in
+    let low : slice_index_or movers rank 0 < cpus = omega arith in
+    let P : ℕ → Type 0 = λ m. Sinks turn start old holds ranks c.args.at m rank in
+    let Q : List g.row.M-State.Denot → Type 0 = λ xs. (cpu : ℕ) → cpu < cpus → Sinks turn start xs holds ranks c.args.at cpu (rank + 1) in
+    record {
+      mover = omega arith;
+      moves = subst P same (c.in_ok-moves.ensures.sinks c.if-not-moves.false);
+      each = subst Q c.in_ok-moves.ensures.same (c.in_ok-stays.ensures.sink yes);
+    }

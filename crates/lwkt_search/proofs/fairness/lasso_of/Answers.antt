@@ -1,4 +1,4 @@
-use Rattle.std.proofs.Common.{◌≡◌, ◌<◌, ◌∙◌, length, arith, sym}
+use Rattle.std.proofs.Common.{◌≡◌, ◌<◌, ◌∙◌, length, arith, slice_index_or}
 use Rattle.lwkt_search.proofs.FairLemmas.{avoided_by}
 use Rattle.lwkt_search.proofs.NodeLemmas.{node_state}
 use Rattle.lwkt_search.proofs.fairness.lasso_of.Goals as goal
@@ -14,4 +14,4 @@ returns g c =
     let links = c.args.growth.now.links.items in
     let round = c.args.round in
     let told = c.in_ok-order.ensures in
-    avoided_by turn c.args.task.now.cpus start (g.J.Judge.holds_of c.args.claim.now) c.in_ok-order.order.items round.part.items _ told.order (told.leads ∙ node_state start kept links round.place c.requires.long c.requires.there) c.requires.round c.requires.served
+    avoided_by turn c.args.task.now.cpus start (g.J.Judge.holds_of c.args.claim.now) c.in_ok-order.order.items round.part.items (slice_index_or kept round.place start) told.order (told.leads ∙ node_state start kept links round.place c.requires.long c.requires.there) c.requires.round c.requires.served

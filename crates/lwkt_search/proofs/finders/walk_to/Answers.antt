@@ -17,3 +17,6 @@ loop-before-preserved g c =
       closed = closed_same c.loop-before.invariant.closed same;
       count = count_same c.loop-before.invariant.count same;
     }
+
+pub returns-then-found-clause-same : goal.returns-then-found-clause-same
+returns-then-found-clause-same g c = c.in_ok-found.ensures.same ∙ c.loop-before.invariant.same
