@@ -1,5 +1,6 @@
-use Rattle.std.proofs.Common.{◌≡◌, ℕ, ◌+◌, ◌<◌, ◌∙◌, List, length, take, arith, ap, subst, sym, refl, below_more, false, IsFalse, slice_index_or}
+use Rattle.std.proofs.Common.{◌≡◌, ◌≢◌, ℕ, ◌+◌, ◌<◌, ◌∙◌, List, length, take, arith, ap, subst, sym, refl, below_more, false, IsFalse, slice_index_or}
 use Rattle.std.proofs.Math.Seq.{take-length}
+use Rattle.std.proofs.lemmas.Bool.{eqb-false}
 use Rattle.lwkt_search.specs.Runs.{run}
 use Rattle.lwkt_search.proofs.FairLemmas.{below_of, closed_same, run_more}
 use Rattle.lwkt_search.proofs.fairness.goes_round.Goals as goal
@@ -25,6 +26,7 @@ returns-clause-round g c = λ yes.
     let i = c.loop-cpu.cpu-index in
     let all : i ≡ length part = omega arith in
     let home : c.loop-cpu.at ≡ c.args.from = omega arith in
+    let other : length part ≢ 0 = λ none. eqb-false (length part) 0 (sym c.is_empty.ensures ∙ c.if-is_empty.false) none in
     let some : 0 < length part = omega arith in
     let N : ℕ → Type 0 = λ n. slice_index_or old n start ≡ run turn state (take i part) in
     let K : ℕ → Type 0 = λ n. run turn state part ≡ run turn state (take n part) in

@@ -29,3 +29,12 @@ round_of-requires-clause-count g c =
     let long : length c.args.growth.now.links.items ≡ length (g.M.Machine.kept c.args.growth.now.store) = c.requires.long in
     let all : c.len-count.result ≡ length (g.M.Machine.kept c.args.growth.now.store) = omega arith in
     count_same all (c.in_ok-holds.ensures.same ∙ c.in_ok-ranking.ensures.same)
+
+pub lasso_of-requires-clause-long : goal.lasso_of-requires-clause-long
+lasso_of-requires-clause-long g c = c.requires.long ∙ sym (ap length (c.in_ok-round.ensures.same ∙ (c.in_ok-holds.ensures.same ∙ c.in_ok-ranking.ensures.same)))
+
+pub lasso_of-requires-clause-graph : goal.lasso_of-requires-clause-graph
+lasso_of-requires-clause-graph g c =
+    let links = c.args.growth.now.links.items in
+    let G : List g.row.M-State.Denot → Type 0 = λ xs. IsGraphOf (g.M.Machine.turn_of c.args.task.now.machine) (g.M.Machine.start_of c.args.task.now.machine) c.args.task.now.cpus (nodes_of xs links) in
+    subst G (sym (c.in_ok-round.ensures.same ∙ (c.in_ok-holds.ensures.same ∙ c.in_ok-ranking.ensures.same))) c.requires.grown.search.graph
