@@ -101,8 +101,30 @@ settle {S} start kept holds ranks state place most there is sinks =
       ]
     ]
 
-below_next : (a b : ℕ) → a < b + 1 → a ≤ b
-below_next a b h = omega arith
+-- what is said of ranks and moments
+same_rank : (a : ℕ) → a ≤ a
+same_rank a = omega arith
+
+next_rank : (a : ℕ) → a < suc a
+next_rank a = omega arith
+
+no_rank : (a : ℕ) → a < zero → ⊥
+no_rank a h = omega arith
+
+low_rank : (a b r : ℕ) → a ≤ b → b < suc r → a ≤ r
+low_rank a b r low less = omega arith
+
+lower_rank : (a b r : ℕ) → a ≤ b → b ≤ r → a ≤ r
+lower_rank a b r low less = omega arith
+
+less_rank : (a b r : ℕ) → a < b → b ≤ r → a < r
+less_rank a b r less low = omega arith
+
+sunk_rank : (a b r : ℕ) → a < b + 1 → b ≤ r → a ≤ r
+sunk_rank a b r less low = omega arith
+
+moment_on : (n m : ℕ) → n ≤ m → n + (m - n) ≡ m
+moment_on n m later = omega arith
 
 -- one turn on, it holds or the rank is no higher
 one_on : {S : Type 0} (turn : S → ℕ → S) (start : S) (cpus : ℕ) (kept : List S) (holds : S → Bool) (ranks movers : List ℕ) (state : S) (most cpu : ℕ) → AreRanked turn start cpus kept holds ranks movers → cpu < cpus → IsAt start kept holds ranks state most → IsTrue (holds (turn state cpu)) ⊎ IsAt start kept holds ranks (turn state cpu) most
@@ -112,7 +134,7 @@ one_on {S} turn start cpus kept holds ranks movers state most cpu ranked below h
     let s : Sinks turn start kept holds ranks here.place cpu (slice_index_or ranks here.place 0 + 1) = r.each cpu below in
     let T : S → Type 0 = λ x. slice_index_or kept s.next start ≡ turn x cpu in
     let is : slice_index_or kept s.next start ≡ turn state cpu = subst T here.is s.leads.leads in
-    settle start kept holds ranks (turn state cpu) s.next most s.leads.there is (elim s.sinks [ inl yes ↦ inl yes | inr low ↦ let least : slice_index_or ranks here.place 0 ≤ most = here.low in inr (omega arith) ])
+    settle start kept holds ranks (turn state cpu) s.next most s.leads.there is (elim s.sinks [ inl yes ↦ inl yes | inr low ↦ inr (sunk_rank (slice_index_or ranks s.next 0) (slice_index_or ranks here.place 0) most low here.low) ])
 
 -- what it is to hold at last, or to stand at a moment with a rank of at most this
 pub LastOrAt : {S : Type 0} → (S → ℕ → S) → S → List S → (S → Bool) → List ℕ → S → (ℕ → ℕ) → ℕ → ℕ → Type 0
@@ -132,7 +154,9 @@ turns_on {S} turn start cpus kept holds ranks movers state order n most (suc d) 
     elim was [
       | inl last ↦ inl last
       | inr at ↦ elim (one_on turn start cpus kept holds ranks movers (state_at turn state order (n + d)) most (order (n + d)) ranked (endless (n + d)) at) [
-        | inl yes ↦ inl (suc (n + d), yes)
+        | inl yes ↦
+            let found : HoldsAtLast turn holds state order = (suc (n + d), yes) in
+            inl found
         | inr on ↦ inr (subst A e on)
       ]
     ]
@@ -142,15 +166,16 @@ fallen : {S : Type 0} (turn : S → ℕ → S) (start : S) (kept : List S) (hold
 fallen {S} turn start kept holds ranks state order r n next limit lower small there is sinks =
     let H : S → Type 0 = λ s. IsTrue (holds s) in
     let rank : ℕ = slice_index_or ranks next 0 in
-    let same : rank ≤ rank = omega arith in
     elim sinks [
-      | inl yes ↦ (n, subst H is yes)
-      | inr low ↦
-          let less : rank < r = omega arith in
-          elim (settle start kept holds ranks (state_at turn state order n) next rank there is (inr same)) [
-            | inl yes ↦ (n, yes)
-            | inr at ↦ lower n rank less at
-          ]
+      | inl yes ↦
+          let found : HoldsAtLast turn holds state order = (n, subst H is yes) in
+          found
+      | inr low ↦ elim (settle start kept holds ranks (state_at turn state order n) next rank there is (inr (same_rank rank))) [
+        | inl yes ↦
+            let found : HoldsAtLast turn holds state order = (n, yes) in
+            found
+        | inr at ↦ lower n rank (less_rank rank limit r low small) at
+      ]
     ]
 
 -- the mover of the rank at a moment gets its turn, or changes nothing
@@ -167,35 +192,27 @@ moved {S} turn start cpus kept holds ranks movers state order r m at cpu lower s
 -- from each moment with a rank below this it holds at last
 falls : {S : Type 0} (turn : S → ℕ → S) (start : S) (cpus : ℕ) (kept : List S) (holds : S → Bool) (ranks movers : List ℕ) (state : S) (order : ℕ → ℕ) (r n most : ℕ) → AreRanked turn start cpus kept holds ranks movers → IsEndless cpus order → IsFair turn cpus state order → most < r → IsAt start kept holds ranks (state_at turn state order n) most → HoldsAtLast turn holds state order
 unfolding AreRanked LastOrAt
-falls turn start cpus kept holds ranks movers state order zero n most ranked endless fair small here = absurd (omega arith)
+falls turn start cpus kept holds ranks movers state order zero n most ranked endless fair small here = absurd (no_rank most small)
 falls {S} turn start cpus kept holds ranks movers state order (suc r) n most ranked endless fair small here =
     let rank : ℕ = slice_index_or ranks here.place 0 in
-    let low : rank ≤ most = here.low in
-    let least : rank ≤ r = omega arith in
-    let same : rank ≤ rank = omega arith in
+    let least : rank ≤ r = low_rank rank most r here.low small in
     let cpu : ℕ = slice_index_or movers rank cpus in
     let first : IsRanked turn start cpus kept holds ranks movers here.place = ranked here.place here.there here.fails in
     let turns = fair cpu first.mover n in
-    let later : n ≤ turns.0 = turns.1 in
-    let on : n + (turns.0 - n) ≡ turns.0 = omega arith in
+    let on : n + (turns.0 - n) ≡ turns.0 = moment_on n turns.0 turns.1 in
     let lower : (n most : ℕ) → most < r → IsAt start kept holds ranks (state_at turn state order n) most → HoldsAtLast turn holds state order = λ n2 most2 small2 here2. falls turn start cpus kept holds ranks movers state order r n2 most2 ranked endless fair small2 here2 in
     let L : ℕ → Type 0 = λ m. HoldsAtLast turn holds state order ⊎ IsAt start kept holds ranks (state_at turn state order m) rank in
-    let was : L turns.0 = subst L on (turns_on turn start cpus kept holds ranks movers state order n rank (turns.0 - n) ranked endless (record { place = here.place; there = here.there; is = here.is; fails = here.fails; low = same })) in
+    let was : L turns.0 = subst L on (turns_on turn start cpus kept holds ranks movers state order n rank (turns.0 - n) ranked endless (record { place = here.place; there = here.there; is = here.is; fails = here.fails; low = same_rank rank })) in
     elim was [
       | inl last ↦ last
       | inr at ↦
           let s : IsRanked turn start cpus kept holds ranks movers at.place = ranked at.place at.there at.fails in
           let rank2 : ℕ = slice_index_or ranks at.place 0 in
-          let same2 : rank2 ≤ rank2 = omega arith in
-          let low2 : rank2 ≤ rank = at.low in
-          let least2 : rank2 ≤ r = omega arith in
-          elim (less_or_same rank2 rank low2) [
-            | inl less ↦
-                let small2 : rank2 < r = omega arith in
-                lower turns.0 rank2 small2 (record { place = at.place; there = at.there; is = at.is; fails = at.fails; low = same2 })
+          elim (less_or_same rank2 rank at.low) [
+            | inl less ↦ lower turns.0 rank2 (less_rank rank2 rank r less least) (record { place = at.place; there = at.there; is = at.is; fails = at.fails; low = same_rank rank2 })
             | inr equal ↦
                 let P : ℕ → Type 0 = λ k. Sinks turn start kept holds ranks at.place (slice_index_or movers k cpus) rank2 in
-                moved turn start cpus kept holds ranks movers state order r turns.0 at.place cpu lower least2 at.is (subst P equal s.moves) turns.2
+                moved turn start cpus kept holds ranks movers state order r turns.0 at.place cpu lower (lower_rank rank2 rank r at.low least) at.is (subst P equal s.moves) turns.2
           ]
     ]
 
@@ -206,11 +223,11 @@ holds_by_ranks {S} turn start cpus kept holds ranks movers closed ranked = λ fi
     let state : S = run turn start first in
     let k : IsKept start kept state = kept_run turn start cpus kept first start closed below (record { place = 0; there = closed.some; is = closed.first }) in
     let rank : ℕ = slice_index_or ranks k.place 0 in
-    let same : rank ≤ rank = omega arith in
-    let more : rank < suc rank = omega arith in
-    elim (settle start kept holds ranks state k.place rank k.there k.is (inr same)) [
-      | inl yes ↦ (0, yes)
-      | inr at ↦ falls turn start cpus kept holds ranks movers state order (suc rank) 0 rank ranked endless fair more at
+    elim (settle start kept holds ranks state k.place rank k.there k.is (inr (same_rank rank))) [
+      | inl yes ↦
+          let found : HoldsAtLast turn holds state order = (0, yes) in
+          found
+      | inr at ↦ falls turn start cpus kept holds ranks movers state order (suc rank) 0 rank ranked endless fair (next_rank rank) at
     ]
 
 -- A part of an order, again and again.
