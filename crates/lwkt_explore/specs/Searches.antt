@@ -8,7 +8,7 @@ use Rattle.lwkt_plain.specs.Stores.{form_turn, kept, IsStore}
 use Rattle.lwkt_script.specs.declared.scripts.Script.{Script}
 use Rattle.lwkt_search.specs.declared.searches.Found.{Found as Searched}
 use Rattle.lwkt_search.specs.declared.searches.Outcome.{Outcome as Last}
-use Rattle.lwkt_search.specs.Graphs.{nodes_of, AllTried, IsGrown}
+use Rattle.lwkt_search.specs.Graphs.{nodes_of, IsGrown}
 use Rattle.lwkt_search.specs.Losses.{IsLost}
 use Rattle.lwkt_search.specs.Runs.{run, all_told, told_of, HasOutcome, IsLast, IsOrder, IsOutcome, IsShortest}
 use Rattle.lwkt_explore.specs.declared.outcomes.Kind.TheVariants.{Stuck}
@@ -49,11 +49,10 @@ IsUnended script states place = HasEnded script (slice_index_or states place (op
 -- what a search of a script's plain machine found, by orders of so many turns and with so many states at the most
 pub record IsSearched (script : Script) (cpus turns bound : ℕ) (found : Searched Store) : Type 0 where
   pub store : IsStore found.growth.store
-  pub noted : length found.growth.links.items ≡ length (kept found.growth.store)
-  pub grown : IsGrown (form_turn script) (opened script) cpus (nodes_of (kept found.growth.store) found.growth.links.items) found.growth.next.items found.growth.gone_on
-  pub each : found.growth.met ≡ None → found.growth.gone_on ≡ length found.growth.links.items
+  pub noted : length found.growth.links ≡ length (kept found.growth.store)
+  pub grown : IsGrown (form_turn script) (HasEnded script) (opened script) cpus (nodes_of (kept found.growth.store) found.growth.links) found.growth.onward.items found.growth.is_whole found.growth.gone_on
+  pub each : found.growth.met ≡ None → found.growth.gone_on ≡ length found.growth.links
   pub whole : IsTrue found.growth.is_whole → found.growth.met ≡ None
-  pub tried : IsTrue found.growth.is_whole → AllTried cpus found.growth.next.items found.growth.gone_on
   pub places : All (λ (one : Last). one.place < length (kept found.growth.store)) found.outcomes.items
   pub short : All (λ (one : Last). length one.order.items ≤ turns) found.outcomes.items
   pub orders : All (λ (one : Last). IsOrder cpus one.order.items) found.outcomes.items

@@ -1,5 +1,5 @@
 //! The search: over states of the plain machine, breadth first, so that orders are shortest.
-ghost use Rattle.std.specs.Prelude.{◌≡◌, ◌≤◌, ◌<◌, true, false, None, [], length, slice_index_or, All, IsTrue, IsFalse, IfOk, IfErr, IfSome, OnOk};
+ghost use Rattle.std.specs.Prelude.{◌≡◌, ◌≤◌, ◌<◌, true, false, None, [], length, All, IsTrue, IsFalse, IfOk, IfErr, IfSome, OnOk};
 ghost use Rattle.lwkt_explore.specs.Extents.{differs, is_complete};
 ghost use Rattle.lwkt_explore.specs.Outcomes.{AreOnce, AreOutcomes, AreShort, AreWhole, HasEnded, HasReport, RefusesSearch};
 ghost use Rattle.lwkt_explore.specs.Searches.{AreShortest, IsLastAt, IsSearched, IsLostAlong, IsShortestOrder, IsUnended, NoneIsLost, StuckAt, TellsWhole};
@@ -24,7 +24,7 @@ use lwkt_base::{Fault, OutOfMemory};
 use lwkt_machine::Machine;
 use lwkt_plain::{Store, opened_scripts_are_sound, standstills_are_waits};
 use lwkt_script::Script;
-use lwkt_search::{Growth, Refusal, Seen, Task, UNTRIED, lost_states};
+use lwkt_search::{Growth, LAST, Refusal, Seen, Task, lost_states};
 use std::alloc::Global;
 
 // What a search of the plain machine finds.
@@ -159,11 +159,6 @@ fn found_in<'s, L: lwkt_search::Watch>(
     None
 }
 
-// How many turns were made.
-fn turns_in(next: &[u32]) -> u64 {
-    next.iter().filter(|n| **n != UNTRIED).count() as u64
-}
-
 // What ended a search.
 fn bound_of(met: Option<lwkt_search::Bound>, was_refused: bool) -> Option<Bound>
     ensures { result ≡ None → met ≡ None }
@@ -230,31 +225,10 @@ fn tell<W: Watch>(
     Ok(true)
 }
 
-// Whether a turn that was tried leads from a state to one that the search didn't go on from.
-fn leads_further(growth: &Growth<Store>, at: usize, cpus: usize) -> bool {
-    let begin = at.saturating_mul(cpus);
-    for cpu in 0..cpus {
-        let next = growth.next.as_slice().get(begin.saturating_add(cpu));
-        if next.is_some_and(|next| *next != UNTRIED && *next as usize >= growth.gone_on) {
-            return true;
-        }
-    }
-    false
-}
-
-// Whether the order to a state has as many turns as it may have, and a further one leads on.
-fn is_cut(task: &Task<Explorer<'_>>, growth: &Growth<Store>, at: usize) -> bool
-    requires store { IsStore growth.now.store }
-    requires there { at < length (kept growth.now.store) }
-    requires noted { at < length growth.now.links.items }
-    ensures { IsTrue result → (slice_index_or growth.now.links.items at (record { parent = 0; cpu = 0; depth = 0 })).depth ≡ task.now.turns }
-{
-    if growth.links[at].depth as usize != task.turns
-        || growth.store.has_ended(task.machine.script, at)
-    {
-        return false;
-    }
-    leads_further(growth, at, usize::from(task.cpus))
+// Whether a turn that was tried leads from a state that is no last one to one that the search didn't go on from.
+fn leads_further(growth: &Growth<Store>, at: usize) -> bool {
+    let onward = growth.onward.as_slice().get(at);
+    onward.is_some_and(|next| *next != LAST && *next as usize >= growth.gone_on)
 }
 
 // Keeps the outcomes of the orders that have as many turns as they may have, where a further one leads on.
@@ -279,11 +253,14 @@ fn tell_cut<W: Watch>(
     if !matches!(found.growth.met, Some(lwkt_search::Bound::Turns)) {
         return Ok(());
     }
-    for at in 0..found.growth.gone_on {
-        if !is_cut(task, &found.growth, at) {
+    for at in found.growth.layer.begin..found.growth.gone_on {
+        if !leads_further(&found.growth, at) {
             continue;
         }
         let order = task.order(alloc, &found.growth, at)?;
+        if order.len() != task.turns {
+            continue;
+        }
         outcomes.add::<W>(alloc, script, order, LastState::Cut)?;
     }
     Ok(())
@@ -426,14 +403,15 @@ fn compared<W: Watch>(
 fn lost_in(
     alloc: Global,
     task: &Task<Explorer<'_>>,
-    found: &Growing,
-) -> Result<Option<Lost>, OutOfMemory>
-    requires searched { IsSearched task.now.machine.script.now task.now.cpus task.now.turns task.now.bound found.now }
-    requires all { found.now.growth.met ≡ None }
-    ensures none { IfOk result (λ lost. IsTrue found.now.growth.is_whole → lost ≡ None → NoneIsLost task.now.machine.script.now task.now.cpus) }
-    ensures some { IfOk result (λ lost. IsTrue found.now.growth.is_whole → IfSome lost (λ one. IsLostAlong task.now.machine.script.now task.now.cpus one.order.items)) }
+    found: Growing,
+) -> Result<Option<Lost>, Refusal>
+    requires searched { IsSearched task.now.machine.script.now task.now.cpus task.now.turns task.now.bound found }
+    requires all { found.growth.met ≡ None }
+    ensures none { IfOk result (λ lost. IsTrue found.growth.is_whole → lost ≡ None → NoneIsLost task.now.machine.script.now task.now.cpus) }
+    ensures some { IfOk result (λ lost. IsTrue found.growth.is_whole → IfSome lost (λ one. IsLostAlong task.now.machine.script.now task.now.cpus one.order.items)) }
 {
-    let lost = lost_states(task, alloc, &found.growth)?;
+    let mut found = found;
+    let lost = lost_states(task, alloc, &mut found.growth)?;
     let count = lost.len();
     match lost.as_slice().first() {
         None => Ok(None),
@@ -446,7 +424,7 @@ fn lost_in(
 
 // How many states were kept, of at most so many.
 fn states_in(growth: &Growth<Store>, bound: usize) -> Tried
-    requires some { 0 < length growth.now.links.items }
+    requires some { 0 < length growth.now.links }
     requires bound { 0 < bound }
     ensures { HasTriedStates bound result }
 {
@@ -454,19 +432,17 @@ fn states_in(growth: &Growth<Store>, bound: usize) -> Tried
 }
 
 // The end of a search that a bound ended.
-fn part_of(task: &Task<Explorer<'_>>, found: &Growing, outcomes: Outcomes, bound: Bound) -> Found
-    requires some { 0 < length found.now.growth.links.items }
-    requires bound { 0 < task.now.bound }
+fn part_of(tried: Tried, turns: u64, outcomes: Outcomes, bound: Bound) -> Found
     ensures outcomes { result.outcomes ≡ outcomes }
     ensures part { is_complete result ≡ false }
     ensures lost { result.lost ≡ None }
     ensures open { IsFalse result.is_whole }
-    ensures tried { HasTriedStates task.now.bound result.tried }
+    ensures tried { result.tried ≡ tried }
 {
     Found {
         outcomes,
-        tried: states_in(&found.growth, task.bound),
-        turns: turns_in(found.growth.next.as_slice()),
+        tried,
+        turns,
         extent: Extent::Part(bound),
         is_whole: false,
         lost: None,
@@ -474,36 +450,43 @@ fn part_of(task: &Task<Explorer<'_>>, found: &Growing, outcomes: Outcomes, bound
 }
 
 // The end of a search that no bound ended, with the outcomes of all that it found.
-fn whole_of(alloc: Global, task: &Task<Explorer<'_>>, found: &Growing, outcomes: Outcomes) -> Found
-    requires bound { 0 < task.now.bound }
-    requires searched { IsSearched task.now.machine.script.now task.now.cpus task.now.turns task.now.bound found.now }
-    requires all { found.now.growth.met ≡ None }
+fn whole_of(
+    alloc: Global,
+    task: &Task<Explorer<'_>>,
+    found: Growing,
+    tried: Tried,
+    outcomes: Outcomes,
+) -> Found
+    requires searched { IsSearched task.now.machine.script.now task.now.cpus task.now.turns task.now.bound found }
+    requires all { found.growth.met ≡ None }
     ensures outcomes { result.outcomes ≡ outcomes }
     ensures ended { is_complete result ≡ true → result.lost ≡ None → HasEnded outcomes }
     ensures lost { is_complete result ≡ false → result.lost ≡ None }
-    ensures whole { IsTrue result.is_whole → (IsTrue found.now.growth.is_whole) × (is_complete result ≡ true) }
+    ensures whole { IsTrue result.is_whole → (IsTrue found.growth.is_whole) × (is_complete result ≡ true) }
     ensures none_lost { IsTrue result.is_whole → result.lost ≡ None → NoneIsLost task.now.machine.script.now task.now.cpus }
     ensures one_lost { IsTrue result.is_whole → IfSome result.lost (λ one. IsLostAlong task.now.machine.script.now task.now.cpus one.order.items) }
     ensures plain { task.now.machine.method ≡ Method.Plain → is_complete result ≡ true → IsTrue result.is_whole }
-    ensures tried { HasTriedStates task.now.bound result.tried }
+    ensures tried { result.tried ≡ tried }
 {
+    let turns = found.growth.turns;
+    let is_whole = found.growth.is_whole;
     // (without reduction each turn was tried, so this can't be)
-    if task.machine.method == Method::Plain && !found.growth.is_whole {
-        return part_of(task, found, outcomes, Bound::Stopped);
+    if task.machine.method == Method::Plain && !is_whole {
+        return part_of(tried, turns, outcomes, Bound::Stopped);
     }
     let lost = match lost_in(alloc, task, found) {
         Ok(lost) => lost,
-        Err(_) => return part_of(task, found, outcomes, Bound::Memory),
+        Err(_) => return part_of(tried, turns, outcomes, Bound::Memory),
     };
     if lost.is_none() && !outcomes.have_ended() {
-        return part_of(task, found, outcomes, Bound::Differs);
+        return part_of(tried, turns, outcomes, Bound::Differs);
     }
     Found {
         outcomes,
-        tried: states_in(&found.growth, task.bound),
-        turns: turns_in(found.growth.next.as_slice()),
+        tried,
+        turns,
         extent: Extent::Complete,
-        is_whole: found.growth.is_whole,
+        is_whole,
         lost,
     }
 }
@@ -513,14 +496,14 @@ fn ended<W: Watch>(
     alloc: Global,
     script: &Script,
     task: &Task<Explorer<'_>>,
-    found: &Growing,
+    found: Growing,
     was_refused: bool,
     each: usize,
 ) -> Result<Found, Fault>
     requires script { task.now.machine.script.now ≡ script.now }
     requires cpus { task.now.cpus ≡ script.now.cpus }
     requires bound { 0 < task.now.bound }
-    requires searched { IsSearched script.now task.now.cpus task.now.turns task.now.bound found.now }
+    requires searched { IsSearched script.now task.now.cpus task.now.turns task.now.bound found }
     ensures found { IfOk result (λ found. AreOutcomes script.now found.outcomes) }
     ensures once { IfOk result (λ found. AreOnce found.outcomes) }
     ensures short { IfOk result (λ found. AreShort task.now.turns found.outcomes) }
@@ -534,16 +517,18 @@ fn ended<W: Watch>(
     ensures refused { IfErr result (λ fault. RefusesSearch script.now fault) }
 {
     let mut outcomes = Outcomes::new(alloc);
-    let told = told_of::<W>(alloc, script, task, found, &mut outcomes)?;
-    if let Some(bound) = compared::<W>(alloc, script, task, found, each, &mut outcomes)? {
-        return Ok(part_of(task, found, outcomes, bound));
+    let tried = states_in(&found.growth, task.bound);
+    let turns = found.growth.turns;
+    let told = told_of::<W>(alloc, script, task, &found, &mut outcomes)?;
+    if let Some(bound) = compared::<W>(alloc, script, task, &found, each, &mut outcomes)? {
+        return Ok(part_of(tried, turns, outcomes, bound));
     }
     if let Some(bound) = bound_of(found.growth.met, was_refused) {
-        return Ok(part_of(task, found, outcomes, bound));
+        return Ok(part_of(tried, turns, outcomes, bound));
     }
     match told {
-        Some(bound) => Ok(part_of(task, found, outcomes, bound)),
-        None => Ok(whole_of(alloc, task, found, outcomes)),
+        Some(bound) => Ok(part_of(tried, turns, outcomes, bound)),
+        None => Ok(whole_of(alloc, task, found, tried, outcomes)),
     }
 }
 
@@ -585,7 +570,7 @@ fn searched<W: Watch>(
     standstills_are_waits();
     match found_in(alloc, &mut task, &mut looking) {
         Some((found, was_refused)) => {
-            ended::<W>(alloc, script, &task, &found, was_refused, bounds.compared)
+            ended::<W>(alloc, script, &task, found, was_refused, bounds.compared)
         }
         None => Ok(Found {
             outcomes: Outcomes::new(alloc),

@@ -54,7 +54,7 @@ pub struct Seen {
     pub states: usize,
     /// How many of the states weren't gone on from yet.
     pub frontier: usize,
-    /// How many turns there are from those that it went on from.
+    /// How many turns were tried.
     pub turns: u64,
 }
 

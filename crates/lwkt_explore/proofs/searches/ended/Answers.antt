@@ -1,6 +1,8 @@
-use Rattle.std.proofs.Common.{◌≡◌, ◌∙◌, ℕ, ◌<◌, List, [], None, All, IfSome, arith, length, rules, subst, sym, ap}
+use Rattle.std.proofs.Common.{◌≡◌, ◌∙◌, ℕ, List, [], None, All, IfSome, arith, rules, subst, sym}
 use Rattle.std.specs.List.{AllPairs}
 use Rattle.lwkt_explore.specs.declared.outcomes.Outcome.{Outcome}
+use Rattle.lwkt_explore.specs.declared.searches.Tried.{Tried}
+use Rattle.lwkt_explore.specs.Tries.{HasTriedStates}
 use Rattle.lwkt_script.specs.declared.scripts.Script.{Script}
 use Rattle.lwkt_search.specs.declared.searches.Outcome.{Outcome as Last}
 use Rattle.lwkt_explore.specs.declared.outcomes.Outcomes.{Outcomes}
@@ -66,7 +68,7 @@ pub returns-in-None-clause-all : goal.returns-in-None-clause-all
 returns-in-None-clause-all g c = λ yes.
     let task = c.args.task.now in
     let script = c.args.script.now in
-    let found = c.args.found.now in
+    let found = c.args.found in
     let whole = c.whole_of.ensures.whole yes in
     let unmet : c.bound_of.result ≡ None = search rules in
     let met : found.growth.met ≡ None = c.bound_of.ensures unmet in
@@ -85,3 +87,15 @@ returns-in-None-clause-all g c = λ yes.
       none_lost = λ none. subst N c.requires.cpus (subst M c.requires.script (c.whole_of.ensures.none_lost yes none));
       one_lost = subst A c.requires.cpus (subst B c.requires.script (c.whole_of.ensures.one_lost yes));
     }
+
+pub returns-in-Some-clause-tried : goal.returns-in-Some-clause-tried
+returns-in-Some-clause-tried g c = let F : Tried → Type 0 = HasTriedStates c.args.task.now.bound in subst F (sym c.part_of.ensures.tried) c.states_in-tried.ensures
+
+pub returns-in-Some-bound_of-clause-tried : goal.returns-in-Some-bound_of-clause-tried
+returns-in-Some-bound_of-clause-tried g c = let F : Tried → Type 0 = HasTriedStates c.args.task.now.bound in subst F (sym c.part_of-in-Some-bound_of.ensures.tried) c.states_in-tried.ensures
+
+pub returns-in-Some-told-clause-tried : goal.returns-in-Some-told-clause-tried
+returns-in-Some-told-clause-tried g c = let F : Tried → Type 0 = HasTriedStates c.args.task.now.bound in subst F (sym c.part_of-in-Some-told.ensures.tried) c.states_in-tried.ensures
+
+pub returns-in-None-clause-tried : goal.returns-in-None-clause-tried
+returns-in-None-clause-tried g c = let F : Tried → Type 0 = HasTriedStates c.args.task.now.bound in subst F (sym c.whole_of.ensures.tried) c.states_in-tried.ensures
