@@ -1,4 +1,4 @@
-use Rattle.std.proofs.Common.{◌≡◌, ◌≢◌, ℕ, ◌<◌, ◌≤◌, List, length, arith, refl, sym, subst, ◌∙◌, below_more, false, true, true≢false}
+use Rattle.std.proofs.Common.{◌≡◌, ◌≢◌, ℕ, ◌<◌, ◌≤◌, List, length, arith, refl, sym, subst, ◌∙◌, below_more, IsTrue, false, true, true≢false}
 use Rattle.lwkt_search.specs.Graphs.{Node, nodes_of, AllTried}
 use Rattle.lwkt_search.specs.Losses.{IsNext}
 use Rattle.lwkt_search.proofs.NodeLemmas.{nodes_long}
@@ -38,7 +38,7 @@ loop-cpu-preserved g c =
     let nodes' = nodes_of kept' links in
     let again = c.loop-cpu.invariant.again in
     let N : List (Node g.row.M-State.Denot) → Type 0 = λ ns. AllTried turn start cpus ns (length ns) in
-    let tried = λ whole. subst N (sym again.same) (c.requires.tried whole) in
+    let tried : IsTrue is_whole → N nodes' = λ whole. subst N (sym again.same) (c.requires.tried whole) in
     let cpu = c.loop-cpu.cpu in
     let below : cpu < cpus = omega (arith, c.loop-cpu.invariant.end) in
     let new = g.M.Machine.kept c.turn.new.store in
@@ -76,7 +76,7 @@ returns-then-is_noted-clause-again g c =
     let nodes' = nodes_of kept' links in
     let again = c.loop-cpu.invariant.again in
     let N : List (Node g.row.M-State.Denot) → Type 0 = λ ns. AllTried turn start cpus ns (length ns) in
-    let tried = λ whole. subst N (sym again.same) (c.requires.tried whole) in
+    let tried : IsTrue is_whole → N nodes' = λ whole. subst N (sym again.same) (c.requires.tried whole) in
     let cpu = c.loop-cpu.cpu in
     let below : cpu < cpus = omega (arith, c.loop-cpu.invariant.end) in
     let new = g.M.Machine.kept c.turn.new.store in
@@ -102,7 +102,7 @@ returns-then-is_noted-clause-some g c = λ so.
     let nodes' = nodes_of kept' links in
     let again = c.loop-cpu.invariant.again in
     let N : List (Node g.row.M-State.Denot) → Type 0 = λ ns. AllTried turn start cpus ns (length ns) in
-    let tried = λ whole. subst N (sym again.same) (c.requires.tried whole) in
+    let tried : IsTrue is_whole → N nodes' = λ whole. subst N (sym again.same) (c.requires.tried whole) in
     let cpu = c.loop-cpu.cpu in
     let below : cpu < cpus = omega (arith, c.loop-cpu.invariant.end) in
     let new = g.M.Machine.kept c.turn.new.store in

@@ -3,8 +3,8 @@ use Rattle.lwkt_search.specs.Graphs.{Node, nodes_of, IsGrown, IsFinished}
 use Rattle.lwkt_search.specs.Losses.{IsReaching, IsSettled}
 use Rattle.lwkt_search.proofs.losses.lost_states.Goals as goal
 
-pub reaching-reaches-requires : goal.reaching-reaches-requires
-reaching-reaches-requires g c =
+pub reaching-requires : goal.reaching-requires
+reaching-requires g c =
     let turn = g.M.Machine.turn_of c.args.task.now.machine in
     let ended = g.M.Machine.ended_of c.args.task.now.machine in
     let start = g.M.Machine.start_of c.args.task.now.machine in
@@ -23,8 +23,8 @@ reaching-reaches-requires g c =
       grown = subst F (sym c.as_slice.ensures.value) (subst G c.requires.finished.each c.requires.finished.grown);
     }
 
-pub lost_of-lost-requires : goal.lost_of-lost-requires
-lost_of-lost-requires g c =
+pub lost_of-requires : goal.lost_of-requires
+lost_of-requires g c =
     let turn = g.M.Machine.turn_of c.args.task.now.machine in
     let ended = g.M.Machine.ended_of c.args.task.now.machine in
     let start = g.M.Machine.start_of c.args.task.now.machine in
@@ -37,7 +37,7 @@ lost_of-lost-requires g c =
     let A : List (Node g.row.M-State.Denot) → Type 0 = λ ns. IsFinished turn ended start cpus ns c.args.growth.now.onward.items is_whole c.args.growth.now.gone_on in
     let R : List (Node g.row.M-State.Denot) → Type 0 = λ ns. IsReaching turn ended start cpus ns reaches in
     let S : List (Node g.row.M-State.Denot) → Type 0 = λ ns. IsTrue is_whole → IsSettled turn start cpus ns reaches in
-    let new = nodes_of (g.M.Machine.kept c.reaching-reaches.new.store) links in
+    let new = nodes_of (g.M.Machine.kept c.reaching.new.store) links in
     let X : List Bool → Type 0 = λ xs. IsReaching turn ended start cpus new xs in
     let Y : List Bool → Type 0 = λ xs. IsTrue is_whole → IsSettled turn start cpus new xs in
     let Z : List Bool → Type 0 = λ xs. length xs ≡ length links in

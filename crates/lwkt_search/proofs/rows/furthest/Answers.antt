@@ -17,6 +17,6 @@ loop-cpu-preserved c =
       few = c.later-far.ensures.few;
       among = elim c.later-far.ensures.one [
         | inl same ↦ subst A (sym same) c.loop-cpu.invariant.among
-        | inr is ↦ inr (record { cpu = cpu; below = inside; is = sym (is ∙ get_or_read row cpu c.index-next.result.now inside c.index-next.ensures 0) })
+        | inr is ↦ inr (record { cpu = cpu; below = inside; is = sym is })
       ];
     }

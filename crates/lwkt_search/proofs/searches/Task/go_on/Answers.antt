@@ -1,4 +1,4 @@
-use Rattle.std.proofs.Common.{◌≡◌, ◌≢◌, ℕ, ◌<◌, ◌≤◌, ◌⊎◌, List, length, arith, subst, All, slice_index_or}
+use Rattle.std.proofs.Common.{◌≡◌, ◌≢◌, ℕ, ◌<◌, ◌≤◌, ◌⊎◌, List, length, arith, subst, All, slice_index_or, IsTrue}
 use Rattle.lwkt_search.specs.declared.rows.TheConstants.{UNTRIED, LAST}
 use Rattle.lwkt_search.specs.Rows.{IsAmong}
 use Rattle.lwkt_search.specs.Graphs.{node_at, nodes_of, IsGrown, IsLayer, IsNoted, AreWithin}
@@ -145,7 +145,7 @@ returns-clause-growth g c =
     let M : List ℕ → Type 0 = λ xs. next ≢ LAST → All (λ n. n ≡ at) xs → ⊥ in
     let I : List ℕ → Type 0 = λ xs. next ≢ LAST → IsAmong xs at next in
     let T : List ℕ → Type 0 = λ xs. All (λ n. n ≢ UNTRIED) xs in
-    let tried = λ yes. subst T slice (c.stays_whole-is_whole.ensures.tried yes) in
+    let tried : IsTrue is_whole → T row = λ yes. subst T slice (c.stays_whole-is_whole.ensures.tried yes) in
     let noted : IsNoted turn ended start cpus new is_whole next at = noted_now turn ended start cpus new is_whole row at next state within here' same (subst L slice c.leads-next.ensures.last) c.leads-next.ensures.going (subst M slice c.leads-next.ensures.moving) (subst I slice c.leads-next.ensures.among) tried in
     let low : at ≤ at = omega arith in
     let own : (node_at start new at).depth ≡ depth = layer.here at low c.requires.inside in

@@ -128,7 +128,8 @@ returns-clause-few g c = λ yes was.
     let count : length links' ≡ length links + 1 = ap (λ (ls : List Link). length ls) c.in_ok-push.ensures ∙ length-append links (link_by links at cpu ∷ []) in
     let more : length new ≡ length old + 1 = ap (λ (ss : List g.row.M-State.Denot). length ss) fresh.grown ∙ length-append old (fresh.state ∷ []) in
     let both_long : length links' ≡ length new = omega arith in
-    omega arith
+    let low : c.len-before.result < c.args.self.now.bound = search rules in
+    omega (arith, low, c.len-before.ensures)
 
 pub returns-clause-full : goal.returns-clause-full
 returns-clause-full g c = λ no.

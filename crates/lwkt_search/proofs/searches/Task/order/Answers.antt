@@ -1,4 +1,4 @@
-use Rattle.std.proofs.Common.{◌≡◌, ℕ, ◌+◌, ◌<◌, List, [], ◌∷◌, ◌++◌, length, arith, ap, sym, subst, ◌∙◌, reverse}
+use Rattle.std.proofs.Common.{◌≡◌, ℕ, ◌+◌, ◌<◌, ◌≤◌, List, [], ◌∷◌, ◌++◌, length, arith, ap, sym, subst, ◌∙◌, reverse}
 use Rattle.std.proofs.lemmas.List.{length-append, length-reverse}
 use Rattle.lwkt_search.specs.Links.{Link}
 use Rattle.lwkt_search.specs.Runs.{run, IsOrder}

@@ -10,7 +10,7 @@ use Rattle.lwkt_search.proofs.NodeLemmas.{nodes_long}
 use Rattle.lwkt_search.proofs.RowLemmas.{is_full}
 use Rattle.lwkt_search.proofs.RunLemmas.{collect_more, collect_less, all_collected, told_push}
 use Rattle.lwkt_search.proofs.searches.Task.search.Goals as goal
-use Rattle.lwkt_search.proofs.searches.Task.search.Goals.{then-next-LAST+in_ok-order+in_ok-push, else-next-LAST}
+use Rattle.lwkt_search.proofs.searches.Task.search.Goals.{then-next+in_ok-order+in_ok-push, else-next}
 
 pub loop-at-preserved : goal.loop-at-preserved
 loop-at-preserved g c =
@@ -35,61 +35,61 @@ loop-at-preserved g c =
     let noted : IsNoted turn ended start cpus nodes is_whole (slice_index_or onward at 0) at = grown.noted at below in
     let inside : at < length onward = omega (arith, grown.long) in
     let read : c.index-next.result.now ≡ slice_index_or onward at 0 = get_or_read onward at c.index-next.result.now inside c.index-next.ensures 0 in
-    let collected : IsCollected turn ended start cpus nodes is_whole (all_told start kept c.if-next-LAST.outcomes.items) (at + 1) =
-    elim c.if-next-LAST.branch [
-      | then-next-LAST+in_ok-order+in_ok-push w ↦
+    let collected : IsCollected turn ended start cpus nodes is_whole (all_told start kept c.if-next.outcomes.items) (at + 1) =
+    elim c.if-next.branch [
+      | then-next+in_ok-order+in_ok-push w ↦
           let last : Outcome = record { place = at; order = w.in_ok-order.order } in
           let pushed = ap (λ (v : Vec Outcome Global). v.items) w.outcomes-is ∙ w.in_ok-push.ensures.items in
-          collect_more turn ended start cpus nodes is_whole (all_told start kept c.loop-at.outcomes.items) (all_told start kept c.if-next-LAST.outcomes.items) at (told_of start kept last) c.loop-at.invariant.collected there grown.search.graph
+          collect_more turn ended start cpus nodes is_whole (all_told start kept c.loop-at.outcomes.items) (all_told start kept c.if-next.outcomes.items) at (told_of start kept last) c.loop-at.invariant.collected there grown.search.graph
           (λ yes.
           let all : gone_on ≡ length links = c.in_ok-growth.ensures.complete (c.in_ok-growth.ensures.whole yes) in
           let same : gone_on ≡ length nodes = omega arith in
           is_full turn ended start cpus nodes onward is_whole gone_on grown same yes)
-          w.in_ok-order.ensures (noted.last (sym read ∙ w.if-next-LAST.true)) (told_push start kept c.loop-at.outcomes.items last c.if-next-LAST.outcomes.items pushed)
-      | else-next-LAST w ↦
-          let other : IsTrue is_whole → IsLast turn ended cpus (node_at start nodes at).state → ⊥ = λ yes. noted.other (λ so. w.if-next-LAST.false (read ∙ so)) yes in
-          collect_less turn ended start cpus nodes is_whole (all_told start kept c.loop-at.outcomes.items) (all_told start kept c.if-next-LAST.outcomes.items) at c.loop-at.invariant.collected other (ap (λ (v : Vec Outcome Global). all_told start kept v.items) w.outcomes-is)
+          w.in_ok-order.ensures (noted.last (sym read ∙ w.if-next.true)) (told_push start kept c.loop-at.outcomes.items last c.if-next.outcomes.items pushed)
+      | else-next w ↦
+          let other : IsTrue is_whole → IsLast turn ended cpus (node_at start nodes at).state → ⊥ = λ yes. noted.other (λ so. w.if-next.false (read ∙ so)) yes in
+          collect_less turn ended start cpus nodes is_whole (all_told start kept c.loop-at.outcomes.items) (all_told start kept c.if-next.outcomes.items) at c.loop-at.invariant.collected other (ap (λ (v : Vec Outcome Global). all_told start kept v.items) w.outcomes-is)
     ]
     in
     let before : (i : ℕ) → (d : Outcome) → i < length c.loop-at.outcomes.items → (slice_index_or c.loop-at.outcomes.items i d).place < at + 1 = λ i d h. omega (arith, c.loop-at.invariant.places i d h) in
     let B : Outcome → Type 0 = λ o. o.place < at + 1 in
-    let places : All B c.if-next-LAST.outcomes.items =
-    elim c.if-next-LAST.branch [
-      | then-next-LAST+in_ok-order+in_ok-push w ↦
+    let places : All B c.if-next.outcomes.items =
+    elim c.if-next.branch [
+      | then-next+in_ok-order+in_ok-push w ↦
           let last : Outcome = record { place = at; order = w.in_ok-order.order } in
           let pushed = ap (λ (v : Vec Outcome Global). v.items) w.outcomes-is ∙ w.in_ok-push.ensures.items in
           let L : List Outcome → Type 0 = λ xs. All B xs in
           subst L (sym pushed) (All-push B c.loop-at.outcomes.items last before (omega arith))
-      | else-next-LAST w ↦
+      | else-next w ↦
           let L : Vec Outcome Global → Type 0 = λ v. All B v.items in
           subst L (sym w.outcomes-is) before
     ]
     in
     let turns : ℕ = c.args.self.now.turns in
     let S : Outcome → Type 0 = λ o. length o.order.items ≤ turns in
-    let short : All S c.if-next-LAST.outcomes.items =
-    elim c.if-next-LAST.branch [
-      | then-next-LAST+in_ok-order+in_ok-push w ↦
+    let short : All S c.if-next.outcomes.items =
+    elim c.if-next.branch [
+      | then-next+in_ok-order+in_ok-push w ↦
           let last : Outcome = record { place = at; order = w.in_ok-order.order } in
           let pushed = ap (λ (v : Vec Outcome Global). v.items) w.outcomes-is ∙ w.in_ok-push.ensures.items in
           let L : List Outcome → Type 0 = λ xs. All S xs in
           let deep : (node_at start nodes at).depth ≤ turns = c.in_ok-growth.ensures.growth.deep at below in
           let size : length w.in_ok-order.order.items ≡ (node_at start nodes at).depth = w.in_ok-order.ensures.long in
           subst L (sym pushed) (All-push S c.loop-at.outcomes.items last c.loop-at.invariant.short (omega (arith, size, deep)))
-      | else-next-LAST w ↦
+      | else-next w ↦
           let L : Vec Outcome Global → Type 0 = λ v. All S v.items in
           subst L (sym w.outcomes-is) c.loop-at.invariant.short
     ]
     in
     let O : Outcome → Type 0 = λ o. IsOrder cpus o.order.items in
-    let orders : All O c.if-next-LAST.outcomes.items =
-    elim c.if-next-LAST.branch [
-      | then-next-LAST+in_ok-order+in_ok-push w ↦
+    let orders : All O c.if-next.outcomes.items =
+    elim c.if-next.branch [
+      | then-next+in_ok-order+in_ok-push w ↦
           let last : Outcome = record { place = at; order = w.in_ok-order.order } in
           let pushed = ap (λ (v : Vec Outcome Global). v.items) w.outcomes-is ∙ w.in_ok-push.ensures.items in
           let L : List Outcome → Type 0 = λ xs. All O xs in
           subst L (sym pushed) (All-push O c.loop-at.outcomes.items last c.loop-at.invariant.orders w.in_ok-order.ensures.order)
-      | else-next-LAST w ↦
+      | else-next w ↦
           let L : Vec Outcome Global → Type 0 = λ v. All O v.items in
           subst L (sym w.outcomes-is) c.loop-at.invariant.orders
     ]
