@@ -8,14 +8,16 @@ use Rattle.lwkt_plain.specs.Stores.{form_turn, kept, IsStore}
 use Rattle.lwkt_script.specs.declared.scripts.Script.{Script}
 use Rattle.lwkt_search.specs.declared.searches.Found.{Found as Searched}
 use Rattle.lwkt_search.specs.declared.searches.Outcome.{Outcome as Last}
+use Rattle.lwkt_search.specs.declared.searches.Task.{Task}
 use Rattle.lwkt_search.specs.Graphs.{nodes_of, IsGrown}
 use Rattle.lwkt_search.specs.Losses.{IsLost}
 use Rattle.lwkt_search.specs.Runs.{run, all_told, told_of, HasOutcome, IsLast, IsOrder, IsOutcome, IsShortest}
+use Rattle.lwkt_explore.specs.declared.explorers.Explorer.{Explorer}
 use Rattle.lwkt_explore.specs.declared.outcomes.Kind.TheVariants.{Stuck}
 use Rattle.lwkt_explore.specs.declared.outcomes.Outcomes.{Outcomes}
 use Rattle.lwkt_explore.specs.declared.searches.Found.{Found}
 use Rattle.lwkt_explore.specs.Extents.{is_complete}
-use Rattle.lwkt_explore.specs.Outcomes.{HasReport}
+use Rattle.lwkt_explore.specs.Outcomes.{AreOutcomes, AreShort, HasReport}
 use Rattle.std.specs.Prelude.{true}
 
 -- the state of the plain machine that an order of turns leads to
@@ -59,6 +61,14 @@ pub record IsSearched (script : Script) (cpus turns bound : ℕ) (found : Search
   pub sound : All (λ one. IsOutcome (form_turn script) (HasEnded script) cpus (opened script) one) (all_told (opened script) (kept found.growth.store) found.outcomes.items)
   pub complete : IsTrue found.growth.is_whole → (order : List ℕ) → IsOrder cpus order → IsLastState script cpus (state_after script order) → HasOutcome (state_after script order) (all_told (opened script) (kept found.growth.store) found.outcomes.items)
   pub shortest : IsTrue found.growth.is_whole → All (λ one. IsShortest (form_turn script) cpus (opened script) one) (all_told (opened script) (kept found.growth.store) found.outcomes.items)
+
+-- a task of the script's processors, what it found, and outcomes of the script whose orders are within its turns
+pub record IsUnderWay (script : Script) (task : Task Explorer) (found : Searched Store) (outcomes : Outcomes) : Type 0 where
+  pub script : task.machine.script.now ≡ script
+  pub cpus : task.cpus ≡ script.cpus
+  pub searched : IsSearched script task.cpus task.turns task.bound found
+  pub outcomes : AreOutcomes script outcomes
+  pub short : AreShort task.turns outcomes
 
 -- a state is told by the report of the run along an order that leads there
 pub record IsToldAt (script : Script) (outcomes : Outcomes) (state : Plain) : Type 0 where

@@ -1,8 +1,8 @@
 //! The search: over states of the plain machine, breadth first, so that orders are shortest.
 ghost use Rattle.std.specs.Prelude.{◌≡◌, ◌≤◌, ◌<◌, true, false, None, [], length, All, IsTrue, IsFalse, IfOk, IfErr, IfSome, OnOk};
-ghost use Rattle.lwkt_explore.specs.Extents.{differs, is_complete};
+ghost use Rattle.lwkt_explore.specs.Extents.{bound_of, differs, is_complete};
 ghost use Rattle.lwkt_explore.specs.Outcomes.{AreOnce, AreOutcomes, AreShort, AreWhole, HasEnded, HasReport, RefusesSearch};
-ghost use Rattle.lwkt_explore.specs.Searches.{AreShortest, IsLastAt, IsSearched, IsLostAlong, IsShortestOrder, IsUnended, NoneIsLost, StuckAt, TellsWhole};
+ghost use Rattle.lwkt_explore.specs.Searches.{AreShortest, IsLastAt, IsSearched, IsLostAlong, IsShortestOrder, IsUnderWay, IsUnended, NoneIsLost, StuckAt, TellsWhole};
 ghost use Rattle.lwkt_explore.specs.Tries.{HasTriedStates};
 ghost use Rattle.lwkt_plain.specs.Deadlocks.{IsStandstill, ReadyThreadsWait};
 ghost use Rattle.lwkt_plain.specs.Openings.{opened};
@@ -159,9 +159,10 @@ fn found_in<'s, L: lwkt_search::Watch>(
     None
 }
 
-// What ended a search.
+// What ended a search, if anything did.
 fn bound_of(met: Option<lwkt_search::Bound>, was_refused: bool) -> Option<Bound>
-    ensures { result ≡ None → met ≡ None }
+    ensures bound { result ≡ bound_of met was_refused }
+    ensures none { result ≡ None → met ≡ None }
 {
     if was_refused {
         return Some(Bound::Memory);
@@ -239,11 +240,7 @@ fn tell_cut<W: Watch>(
     found: &Growing,
     outcomes: &mut Outcomes,
 ) -> Result<(), Fault>
-    requires script { task.now.machine.script.now ≡ script.now }
-    requires cpus { task.now.cpus ≡ script.now.cpus }
-    requires searched { IsSearched script.now task.now.cpus task.now.turns task.now.bound found.now }
-    requires outcomes { AreOutcomes script.now outcomes.old }
-    requires short { AreShort task.now.turns outcomes.old }
+    requires { IsUnderWay script.now task.now found.now outcomes.old }
     ensures found { AreOutcomes script.now outcomes.new }
     ensures short { AreShort task.now.turns outcomes.new }
     ensures once { AreOnce outcomes.old → AreOnce outcomes.new }
@@ -321,12 +318,8 @@ fn stands_at<W: Watch>(
     at: usize,
     outcomes: &mut Outcomes,
 ) -> Result<bool, Fault>
-    requires script { task.now.machine.script.now ≡ script.now }
-    requires cpus { task.now.cpus ≡ script.now.cpus }
-    requires searched { IsSearched script.now task.now.cpus task.now.turns task.now.bound found.now }
+    requires way { IsUnderWay script.now task.now found.now outcomes.old }
     requires there { at < found.now.growth.gone_on }
-    requires outcomes { AreOutcomes script.now outcomes.old }
-    requires short { AreShort task.now.turns outcomes.old }
     ensures found { AreOutcomes script.now outcomes.new }
     ensures short { AreShort task.now.turns outcomes.new }
     ensures once { AreOnce outcomes.old → AreOnce outcomes.new }
@@ -352,11 +345,7 @@ fn stands_everywhere<W: Watch>(
     each: usize,
     outcomes: &mut Outcomes,
 ) -> Result<bool, Fault>
-    requires script { task.now.machine.script.now ≡ script.now }
-    requires cpus { task.now.cpus ≡ script.now.cpus }
-    requires searched { IsSearched script.now task.now.cpus task.now.turns task.now.bound found.now }
-    requires outcomes { AreOutcomes script.now outcomes.old }
-    requires short { AreShort task.now.turns outcomes.old }
+    requires { IsUnderWay script.now task.now found.now outcomes.old }
     ensures found { AreOutcomes script.now outcomes.new }
     ensures short { AreShort task.now.turns outcomes.new }
     ensures once { AreOnce outcomes.old → AreOnce outcomes.new }
@@ -380,11 +369,7 @@ fn compared<W: Watch>(
     each: usize,
     outcomes: &mut Outcomes,
 ) -> Result<Option<Bound>, Fault>
-    requires script { task.now.machine.script.now ≡ script.now }
-    requires cpus { task.now.cpus ≡ script.now.cpus }
-    requires searched { IsSearched script.now task.now.cpus task.now.turns task.now.bound found.now }
-    requires outcomes { AreOutcomes script.now outcomes.old }
-    requires short { AreShort task.now.turns outcomes.old }
+    requires { IsUnderWay script.now task.now found.now outcomes.old }
     ensures found { AreOutcomes script.now outcomes.new }
     ensures short { AreShort task.now.turns outcomes.new }
     ensures once { AreOnce outcomes.old → AreOnce outcomes.new }

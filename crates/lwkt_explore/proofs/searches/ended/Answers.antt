@@ -71,7 +71,7 @@ returns-in-None-clause-all g c = λ yes.
     let found = c.args.found in
     let whole = c.whole_of.ensures.whole yes in
     let unmet : c.bound_of.result ≡ None = search rules in
-    let met : found.growth.met ≡ None = c.bound_of.ensures unmet in
+    let met : found.growth.met ≡ None = c.bound_of.ensures.none unmet in
     let same : c.compared.new.outcomes ≡ c.told_of.new.outcomes = c.in_ok-bound.ensures.same (search rules) in
     let reports : All (λ (one : Last). HasReport script one.order.items c.told_of.new.outcomes) found.outcomes.items = c.in_ok-told.ensures.told c.in-None.is met in
     let R : Outcomes → Type 0 = λ outcomes. All (λ (one : Last). HasReport script one.order.items outcomes) found.outcomes.items in
@@ -99,3 +99,11 @@ returns-in-Some-told-clause-tried g c = let F : Tried → Type 0 = HasTriedState
 
 pub returns-in-None-clause-tried : goal.returns-in-None-clause-tried
 returns-in-None-clause-tried g c = let F : Tried → Type 0 = HasTriedStates c.args.task.now.bound in subst F (sym c.whole_of.ensures.tried) c.states_in-tried.ensures
+pub compared-requires : goal.compared-requires
+compared-requires g c = record {
+  script = c.requires.script;
+  cpus = c.requires.cpus;
+  searched = c.requires.searched;
+  outcomes = c.told_of.ensures.found;
+  short = c.told_of.ensures.short;
+}

@@ -6,7 +6,7 @@ use Rattle.lwkt_explore.proofs.searches.stands_at.Goals as goal
 
 pub order-requires-clause-there : goal.order-requires-clause-there
 order-requires-clause-there g c =
-    let is = c.requires.searched in
+    let is = c.requires.way.searched in
     let states = kept c.args.found.now.growth.store in
     let links = c.args.found.now.growth.links in
     let same : length links ≡ length states = is.noted in
@@ -23,4 +23,4 @@ order-requires-clause-long g c =
     omega arith
 
 pub returns-in_ok-add-clause-short : goal.returns-in_ok-add-clause-short
-returns-in_ok-add-clause-short g c = c.add.ensures.short c.args.task.now.turns (omega arith) c.requires.short
+returns-in_ok-add-clause-short g c = c.add.ensures.short c.args.task.now.turns (omega arith) c.requires.way.short
