@@ -1,6 +1,6 @@
 //! The search: over states of the plain machine, breadth first, so that orders are shortest.
 ghost use Rattle.std.specs.Prelude.{◌≡◌, ◌≤◌, ◌<◌, true, false, None, [], length, All, IsTrue, IsFalse, IfOk, IfErr, IfSome, OnOk};
-ghost use Rattle.lwkt_explore.specs.Extents.{bound_of, differs, is_complete};
+ghost use Rattle.lwkt_explore.specs.Extents.{bound_met, bound_met_full, bound_of, bytes_seen, differs, is_complete, room_of};
 ghost use Rattle.lwkt_explore.specs.Outcomes.{AreOnce, AreOutcomes, AreShort, AreWhole, HasEnded, HasReport, RefusesSearch};
 ghost use Rattle.lwkt_explore.specs.Searches.{AreShortest, IsLastAt, IsSearched, IsLostAlong, IsShortestOrder, IsUnderWay, IsUnended, NoneIsLost, StuckAt, TellsWhole};
 ghost use Rattle.lwkt_explore.specs.Tries.{HasTriedStates};
@@ -12,7 +12,7 @@ ghost use Rattle.lwkt_run.specs.Run.{AreThere};
 
 use crate::dives::dive;
 use crate::explorers::Explorer;
-use crate::extents::{Bound, Extent};
+use crate::extents::{Bound, Extent, Room};
 use crate::losses::Lost;
 use crate::mails::Mails;
 use crate::mirrors::stands_as;
@@ -37,6 +37,9 @@ pub struct Bounds {
     pub states: usize,
     /// The most turns of an order, a random one too.
     pub turns: usize,
+    /// The most bytes that are kept, by how many states there are and how many parts of each kind they have. It doesn't bound random
+    /// orders.
+    pub bytes: u64,
     /// Each how many-th state that a search went on from is compared with the real machine's: 1 for all, 0 for none.
     pub compared: usize,
 }
@@ -98,10 +101,32 @@ impl Found {
 struct Looking<'w, W> {
     watch: &'w mut W,
     goes_on: bool,
+    // the most bytes that are kept
+    most: u64,
+    // whether more were kept
+    is_full: bool,
+}
+
+// How many bytes a search keeps.
+fn bytes_seen(seen: Seen) -> u64
+    ensures { result ≡ bytes_seen seen }
+{
+    let noted = (seen.states as u64).saturating_mul(12);
+    let rows = seen.turns.saturating_mul(4);
+    seen.bytes.saturating_add(noted.saturating_add(rows))
 }
 
 impl<'w, W: Watch> lwkt_search::Watch for Looking<'w, W> {
-    fn goes_on(&mut self, seen: Seen) -> bool {
+    fn goes_on(&mut self, seen: Seen) -> bool
+        ensures most { self.new.most ≡ self.old.most }
+        ensures room { IsTrue result → bytes_seen seen ≤ self.old.most }
+        ensures full { self.old.most < bytes_seen seen → IsTrue self.new.is_full }
+        ensures kept { bytes_seen seen ≤ self.old.most → self.new.is_full ≡ self.old.is_full }
+    {
+        if self.most < bytes_seen(seen) {
+            self.is_full = true;
+            return false;
+        }
         self.goes_on && self.watch.goes_on(seen)
     }
 }
@@ -133,13 +158,26 @@ fn attempt<'s, L: lwkt_search::Watch>(
     Ok(found)
 }
 
+// What room a search had.
+fn room_of(was_refused: bool, is_full: bool) -> Room
+    ensures { result ≡ room_of was_refused is_full }
+{
+    if was_refused {
+        Room::Refused
+    } else if is_full {
+        Room::Full
+    } else {
+        Room::Enough
+    }
+}
+
 // What the search of the plain machine finds with as much memory as there is: where that is refused, it begins anew with half as many
-// states. Says whether it was.
-fn found_in<'s, L: lwkt_search::Watch>(
+// states, and half as many bytes. Says what room it had.
+fn found_in<'s, 'w, W: Watch>(
     alloc: Global,
     task: &mut Task<Explorer<'s>>,
-    looking: &mut L,
-) -> Option<(Growing, bool)>
+    looking: &mut Looking<'w, W>,
+) -> Option<(Growing, Room)>
     requires sound { IsSound (opened task.old.machine.script.now) }
     ensures machine { task.new.machine ≡ task.old.machine }
     ensures cpus { task.new.cpus ≡ task.old.cpus }
@@ -151,27 +189,46 @@ fn found_in<'s, L: lwkt_search::Watch>(
     let mut was_refused = false;
     while task.bound > 0 {
         if let Ok(found) = attempt(alloc, task, looking) {
-            return Some((found, was_refused));
+            return Some((found, room_of(was_refused, looking.is_full)));
         }
         was_refused = true;
         task.bound /= 2;
+        looking.most /= 2;
     }
     None
 }
 
+// The bound that a search met.
+fn bound_met(met: lwkt_search::Bound) -> Bound
+    ensures { result ≡ bound_met met }
+{
+    match met {
+        lwkt_search::Bound::States => Bound::States,
+        lwkt_search::Bound::Turns => Bound::Turns,
+        lwkt_search::Bound::Stopped => Bound::Stopped,
+    }
+}
+
+// The same of one that was stopped for what it kept, if it was stopped.
+fn bound_met_full(met: lwkt_search::Bound) -> Bound
+    ensures { result ≡ bound_met_full met }
+{
+    match met {
+        lwkt_search::Bound::States => Bound::States,
+        lwkt_search::Bound::Turns => Bound::Turns,
+        lwkt_search::Bound::Stopped => Bound::Memory,
+    }
+}
+
 // What ended a search, if anything did.
-fn bound_of(met: Option<lwkt_search::Bound>, was_refused: bool) -> Option<Bound>
-    ensures bound { result ≡ bound_of met was_refused }
+fn bound_of(met: Option<lwkt_search::Bound>, room: Room) -> Option<Bound>
+    ensures bound { result ≡ bound_of met room }
     ensures none { result ≡ None → met ≡ None }
 {
-    if was_refused {
-        return Some(Bound::Memory);
-    }
-    match met {
-        None => None,
-        Some(lwkt_search::Bound::States) => Some(Bound::States),
-        Some(lwkt_search::Bound::Turns) => Some(Bound::Turns),
-        Some(lwkt_search::Bound::Stopped) => Some(Bound::Stopped),
+    match room {
+        Room::Refused => Some(Bound::Refused),
+        Room::Full => Some(bound_met_full(met?)),
+        Room::Enough => Some(bound_met(met?)),
     }
 }
 
@@ -294,12 +351,12 @@ fn told_of<W: Watch>(
     ) {
         Ok(true) => {}
         Ok(false) => return Ok(Some(Bound::Differs)),
-        Err(Fault::Memory(_)) => return Ok(Some(Bound::Memory)),
+        Err(Fault::Memory(_)) => return Ok(Some(Bound::Refused)),
         Err(fault) => return Err(fault),
     }
     match tell_cut::<W>(alloc, script, task, found, outcomes) {
         Ok(()) => Ok(None),
-        Err(Fault::Memory(_)) => Ok(Some(Bound::Memory)),
+        Err(Fault::Memory(_)) => Ok(Some(Bound::Refused)),
         Err(fault) => Err(fault),
     }
 }
@@ -379,7 +436,7 @@ fn compared<W: Watch>(
     match stands_everywhere::<W>(alloc, script, task, found, each, outcomes) {
         Ok(true) => Ok(None),
         Ok(false) => Ok(Some(Bound::Differs)),
-        Err(Fault::Memory(_)) => Ok(Some(Bound::Memory)),
+        Err(Fault::Memory(_)) => Ok(Some(Bound::Refused)),
         Err(fault) => Err(fault),
     }
 }
@@ -461,7 +518,7 @@ fn whole_of(
     }
     let lost = match lost_in(alloc, task, found) {
         Ok(lost) => lost,
-        Err(_) => return part_of(tried, turns, outcomes, Bound::Memory),
+        Err(_) => return part_of(tried, turns, outcomes, Bound::Refused),
     };
     if lost.is_none() && !outcomes.have_ended() {
         return part_of(tried, turns, outcomes, Bound::Differs);
@@ -482,7 +539,7 @@ fn ended<W: Watch>(
     script: &Script,
     task: &Task<Explorer<'_>>,
     found: Growing,
-    was_refused: bool,
+    room: Room,
     each: usize,
 ) -> Result<Found, Fault>
     requires script { task.now.machine.script.now ≡ script.now }
@@ -508,7 +565,7 @@ fn ended<W: Watch>(
     if let Some(bound) = compared::<W>(alloc, script, task, &found, each, &mut outcomes)? {
         return Ok(part_of(tried, turns, outcomes, bound));
     }
-    if let Some(bound) = bound_of(found.growth.met, was_refused) {
+    if let Some(bound) = bound_of(found.growth.met, room) {
         return Ok(part_of(tried, turns, outcomes, bound));
     }
     match told {
@@ -551,17 +608,20 @@ fn searched<W: Watch>(
         bound: bounds.states.max(1),
         turns: bounds.turns,
     };
-    let mut looking = Looking { watch, goes_on };
+    let mut looking = Looking {
+        watch,
+        goes_on,
+        most: bounds.bytes,
+        is_full: false,
+    };
     standstills_are_waits();
     match found_in(alloc, &mut task, &mut looking) {
-        Some((found, was_refused)) => {
-            ended::<W>(alloc, script, &task, found, was_refused, bounds.compared)
-        }
+        Some((found, room)) => ended::<W>(alloc, script, &task, found, room, bounds.compared),
         None => Ok(Found {
             outcomes: Outcomes::new(alloc),
             tried: Tried::States(1),
             turns: 0,
-            extent: Extent::Part(Bound::Memory),
+            extent: Extent::Part(Bound::Refused),
             is_whole: false,
             lost: None,
         }),

@@ -166,6 +166,7 @@ pub extern "C" fn lwkt_explore_orders(
     let bounds = Bounds {
         states,
         turns,
+        bytes: u64::MAX,
         compared: 1000,
     };
     let outcome = search_onto(alloc, script, bounds, &mut page);

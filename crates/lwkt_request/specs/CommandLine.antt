@@ -45,7 +45,7 @@ with_ways app = with_rule (with_rule app (flag (codes "plain"))) (flag (codes "c
 
 -- those that bound a search
 abbrev pub with_bounds : App → App
-with_bounds app = with_rule (with_rule (with_rule app (valued (codes "states"))) (valued (codes "turns"))) (valued (codes "seconds"))
+with_bounds app = with_rule (with_rule (with_rule (with_rule app (valued (codes "states"))) (valued (codes "turns"))) (valued (codes "memory"))) (valued (codes "seconds"))
 
 -- those of random orders
 abbrev pub with_random : App → App

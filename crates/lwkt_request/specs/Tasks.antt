@@ -16,7 +16,7 @@ use Rattle.lwkt_request.specs.declared.requests.Task.{Task}
 use Rattle.lwkt_request.specs.declared.requests.Task.TheVariants.{Run, Show, Check, Text as Translate, Explore}
 use Rattle.lwkt_request.specs.declared.requests.Wording.{Wording}
 use Rattle.lwkt_request.specs.declared.requests.Wording.TheVariants.{Names, Numbers}
-use Rattle.lwkt_request.specs.Texts.{no_end, number_named, number_or, path_of, is_part, range_named}
+use Rattle.lwkt_request.specs.Texts.{bytes_or, no_end, number_named, number_or, path_of, is_part, range_named}
 
 -- what a parse found for the arguments
 abbrev pub rows_in : ArgMatches → List Row
@@ -93,13 +93,17 @@ text_in rows = option_and_then (λ form. Some (Translate form)) (form_of (is_on 
 
 -- ---- explore
 
+-- the bound on states where none is named: if memory is bounded, as many as there are numbers
+abbrev pub states_by : Option Text → ℕ
+states_by memory = if is_some memory then 4294967295 else 1000000
+
 -- a search; none if a value is no number, or `--all` is named without a folder
-abbrev pub explored : Bool → Bool → Option Text → Option Text → Option Text → Option Text → Option Text → Bool → Bool → Bool → Bool → Option Task
-explored plain careful states turns random seed seconds progress in_numbers all has_path =
-    option_and_then (λ states. option_and_then (λ turns. option_and_then (λ random. option_and_then (λ seed. option_and_then (λ seconds.
+abbrev pub explored : Bool → Bool → Option Text → Option Text → Option Text → Option Text → Option Text → Option Text → Bool → Bool → Bool → Bool → Option Task
+explored plain careful states turns memory random seed seconds progress in_numbers all has_path =
+    option_and_then (λ states. option_and_then (λ turns. option_and_then (λ bytes. option_and_then (λ random. option_and_then (λ seed. option_and_then (λ seconds.
     if all && not has_path then None
     else Some (Explore (record {
-      bounds = record { states = states; turns = turns; compared = if careful then 1 else 1000 };
+      bounds = record { states = states; turns = turns; bytes = bytes; compared = if careful then 1 else 1000 };
       method = if plain then Plain else Reduced;
       random = random;
       seed = seed;
@@ -107,11 +111,11 @@ explored plain careful states turns random seed seconds progress in_numbers all 
       progress = progress;
       in_numbers = in_numbers;
       all = all;
-    }))) (number_named seconds)) (number_or 0 seed)) (number_named random)) (number_or 100000 turns)) (number_or 1000000 states)
+    }))) (number_named seconds)) (number_or 0 seed)) (number_named random)) (bytes_or 18446744073709551615 memory)) (number_or 100000 turns)) (number_or (states_by memory) states)
 
 abbrev pub explore_in : List Row → Option Task
 explore_in rows =
-    explored (is_on (codes "plain") rows) (is_on (codes "careful") rows) (first_of (codes "states") rows) (first_of (codes "turns") rows) (first_of (codes "random") rows)
+    explored (is_on (codes "plain") rows) (is_on (codes "careful") rows) (first_of (codes "states") rows) (first_of (codes "turns") rows) (first_of (codes "memory") rows) (first_of (codes "random") rows)
     (first_of (codes "seed") rows) (first_of (codes "seconds") rows) (is_on (codes "progress") rows) (is_on (codes "numbers") rows) (is_on (codes "all") rows)
     (is_some (path_of (first_of (codes "FILE") rows)))
 

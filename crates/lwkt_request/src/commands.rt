@@ -271,6 +271,13 @@ fn with_bounds<'a>(alloc: Global, command: Built<'a>) -> Built<'a>
         "N",
         "Try orders of at most N turns, by default 100000",
     );
+    let command = with_value(
+        alloc,
+        command,
+        "memory",
+        "SIZE",
+        "Store at most SIZE bytes, such as 500M or 2G",
+    );
     with_value(
         alloc,
         command,

@@ -164,9 +164,14 @@ begins with `or` gives the message lines in which another of them differs from
 the first, and a shortest order to it.
 
 The last line ends with `complete` if every order was tried. Else it ends with
-`a part` and what ended the search: (states) or (turns) for the bound that
---states or --turns sets, (memory) for a failed allocation, (stopped) for
---seconds, and (differs) if the real machine differs from the plain one.
+`a part` and what ended the search: (states), (turns) or (memory) for the bound
+that --states, --turns or --memory sets, (memory) also for a failed allocation,
+(stopped) for --seconds, and (differs) if the real machine differs from the
+plain one. A line before it says which option gives more.
+
+A SIZE is a number of bytes, which K, M or G may follow. They are counted by how
+many states there are, and how many parts they have. Without --states the bound
+is 1000000 states, but with --memory there is none.
 
 If a text has expectations, standard error quotes each, and says whether it
 holds in all orders, with a shortest order that breaks it or shows it. An expectation is
@@ -175,8 +180,8 @@ full log leaves it open. A log has a thread's first 32 entries.
 
 Turns that can be exchanged aren't tried in each order; the outcomes are the
 same as with --plain. With --random the outcomes have counts, the last line ends
-with `a part` alone, and --states and --plain do nothing. A seed gives the same
-orders on every machine.
+with `a part` alone, and --states, --memory and --plain do nothing. A seed gives
+the same orders on every machine.
 
 With --all FILE is a folder: each .lwkt and .json file in it is tried, and a
 line says how many passed.",

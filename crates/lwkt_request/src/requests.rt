@@ -5,7 +5,8 @@ use lwkt_show::Options;
 /// Which orders of a script's turns are tried, and how.
 #[derive(Clone, Copy)]
 pub struct Search {
-    /// `--states` and `--turns`: 1000000 and 100000 if they aren't named.
+    /// `--states`, `--turns` and `--memory`: 1000000 states and 100000 turns if they aren't named; with `--memory` as many states as there
+    /// are numbers.
     pub bounds: Bounds,
     /// `Plain` with `--plain`, else `Reduced`.
     pub method: Method,

@@ -2,10 +2,12 @@
 ghost use Rattle.std.specs.Prelude.{◌≡◌, is_ok};
 ghost use Rattle.std.specs.Option.{option_copied};
 ghost use Rattle.std.specs.Result.{result_ok};
-ghost use Rattle.lwkt_request.specs.Tasks.{explore_in, explored, fits, fits_order, fits_threads, form_of, has_range, is_chains, is_whole, options_of, rows_in, show_in, shown, task_in, text_in, rendering_of, wording_of};
+ghost use Rattle.lwkt_request.specs.Tasks.{explore_in, explored, fits, fits_order, fits_threads, form_of, has_range, is_chains, is_whole, options_of, rows_in, show_in, shown, task_in, text_in, rendering_of, states_by, wording_of};
 
 use crate::matched::{is_on, value_in};
-use crate::ranges::{Range, are_parts, number_named, number_or, path_of, range_named, size_or};
+use crate::ranges::{
+    Range, are_parts, bytes_or, number_named, number_or, path_of, range_named, size_or,
+};
 use crate::requests::{Form, Search, Task, Wording};
 use crate::wrongs::Wrong;
 use clap::ArgMatches;
@@ -200,6 +202,7 @@ struct ExploreWords<'a> {
     careful: bool,
     states: Option<&'a str>,
     turns: Option<&'a str>,
+    memory: Option<&'a str>,
     random: Option<&'a str>,
     seed: Option<&'a str>,
     seconds: Option<&'a str>,
@@ -209,11 +212,23 @@ struct ExploreWords<'a> {
     has_path: bool,
 }
 
-fn explored<'a>(words: ExploreWords<'a>) -> Result<Task, Wrong<'a>>
-    ensures { result_ok result ≡ explored words.entry.plain words.entry.careful (option_copied words.entry.states) (option_copied words.entry.turns) (option_copied words.entry.random) (option_copied words.entry.seed) (option_copied words.entry.seconds) words.entry.progress words.entry.in_numbers words.entry.all words.entry.has_path }
+// The bound on states where none is named: if memory is bounded, as many as there are numbers.
+fn states_by(memory: Option<&str>) -> usize
+    ensures { result ≡ states_by (option_copied memory.entry) }
 {
-    let states = size_or("--states", words.states, 1_000_000)?;
+    if memory.is_some() {
+        4_294_967_295
+    } else {
+        1_000_000
+    }
+}
+
+fn explored<'a>(words: ExploreWords<'a>) -> Result<Task, Wrong<'a>>
+    ensures { result_ok result ≡ explored words.entry.plain words.entry.careful (option_copied words.entry.states) (option_copied words.entry.turns) (option_copied words.entry.memory) (option_copied words.entry.random) (option_copied words.entry.seed) (option_copied words.entry.seconds) words.entry.progress words.entry.in_numbers words.entry.all words.entry.has_path }
+{
+    let states = size_or("--states", words.states, states_by(words.memory))?;
     let turns = size_or("--turns", words.turns, 100_000)?;
+    let bytes = bytes_or("--memory", words.memory, u64::MAX)?;
     let random = number_named("--random", words.random)?;
     let seed = number_or("--seed", words.seed, 0)?;
     let seconds = number_named("--seconds", words.seconds)?;
@@ -224,6 +239,7 @@ fn explored<'a>(words: ExploreWords<'a>) -> Result<Task, Wrong<'a>>
         bounds: Bounds {
             states,
             turns,
+            bytes,
             compared: if words.careful { 1 } else { 1000 },
         },
         method: if words.plain {
@@ -248,6 +264,7 @@ fn explore_in<'a>(matches: &ArgMatches<'a>) -> Result<Task, Wrong<'a>>
         careful: is_on(matches, "careful"),
         states: value_in(matches, "states"),
         turns: value_in(matches, "turns"),
+        memory: value_in(matches, "memory"),
         random: value_in(matches, "random"),
         seed: value_in(matches, "seed"),
         seconds: value_in(matches, "seconds"),

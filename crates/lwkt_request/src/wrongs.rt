@@ -8,6 +8,8 @@ use std::alloc::Global;
 pub(crate) enum Wrong<'a> {
     /// The value is no whole number below 2^64.
     Number(&'static str, &'a str),
+    /// The value is no number of bytes.
+    Size(&'static str, &'a str),
     /// The value is no range.
     Range(&'static str, &'a str),
     /// The range begins behind its end.
@@ -55,6 +57,9 @@ fn sentence_of(alloc: Global, wrong: Wrong<'_>) -> Result<String, OutOfMemory> {
     match wrong {
         Wrong::Number(name, value) => {
             unfit(alloc, name, value, "a whole number below 2^64", " 10")
+        }
+        Wrong::Size(name, value) => {
+            unfit(alloc, name, value, "a number of bytes below 2^64", " 500M")
         }
         Wrong::Range(name, value) => unfit(alloc, name, value, "a range", " 1..5"),
         Wrong::Falls(name, value) => {

@@ -304,6 +304,7 @@ impl<M: Machine> Task<M> {
             states: count,
             frontier: count - at,
             turns: growth.turns,
+            bytes: self.machine.bytes(&growth.store),
         };
         if !watch.goes_on(seen) {
             return Ok(Some(Bound::Stopped));
