@@ -92,7 +92,7 @@ made_status (Check by_lines) order input text status made is = absurd made
 made_status (Text form.Json) order input text status (exact, (short, same)) is = no_0 (sym same ∙ is)
 made_status (Text form.Text) order input text status (exact, (short, same)) is = no_0 (sym same ∙ is)
 made_status (Text form.Run) order input text status made is = judged_status (judgement_of input.expectations made.closing) (sym made.is_status ∙ is)
-made_status (Explore search) order input text status made is = text_status input.expectations made.found (sym made.is_status ∙ is)
+made_status (Explore search) order input text status made is = text_status input.expectations made.is.found (sym made.is.is_status ∙ is)
 
 -- endings
 by_done : (ending : Ending) (status : ℕ) → ending ≡ Done status → (status ≡ 3 → ⊥) → OwnsThree ending

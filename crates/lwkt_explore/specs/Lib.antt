@@ -1,6 +1,7 @@
 pub mod Claims
 pub mod Expectations
 pub mod Extents
+pub mod Jsons
 pub mod Judgements
 pub mod Judging
 pub mod Laws

@@ -203,7 +203,3 @@ text_in telling found =
 -- the same in numbers
 abbrev pub text_of_found : Found → List ℕ
 text_of_found found = text_in None found
-
--- the same in the names of a text
-abbrev pub told_of_found : Telling → Found → List ℕ
-told_of_found telling found = text_in (Some telling) found

@@ -15,8 +15,8 @@ use lwkt_report::Closing;
 use lwkt_text::claims::Expectation;
 use std::alloc::Global;
 
-// Whether an expectation holds, in words.
-fn words_of(truth: Truth) -> &'static str
+/// Whether an expectation holds, in words.
+pub(crate) fn words_of(truth: Truth) -> &'static str
     ensures { result.now ≡ truth_text truth }
 {
     match truth {

@@ -51,10 +51,14 @@ with_bounds app = with_rule (with_rule (with_rule (with_rule app (valued (codes 
 abbrev pub with_random : App → App
 with_random app = with_rule (with_rule app (valued (codes "random"))) (valued (codes "seed"))
 
+-- those that choose how it is written what is found
+abbrev pub with_layouts : App → App
+with_layouts app = with_rule (with_rule app (flag (codes "numbers"))) (flag (codes "json"))
+
 abbrev pub explore : App
 explore =
-    with_rule (with_rule (with_rule (with_rule (with_random (with_bounds (with_ways (new_app (codes "explore")))))
-    (flag (codes "progress"))) (flag (codes "numbers"))) (flag (codes "all"))) file
+    with_rule (with_rule (with_layouts (with_rule (with_random (with_bounds (with_ways (new_app (codes "explore")))))
+    (flag (codes "progress")))) (flag (codes "all"))) file
 
 -- the program's name isn't among the words, a subcommand is wanted, `help` is no subcommand, and there is a version
 abbrev pub with_settings : Shape → Shape

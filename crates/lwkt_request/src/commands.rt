@@ -2,7 +2,7 @@
 ghost use Rattle.std.specs.Prelude.{◌≡◌, false, IfOk};
 ghost use Rattle.clap.specs.Words.{App, Rule, rule_of, with_rule, with_subcommand};
 ghost use Rattle.clap.specs.Simple.{on_top};
-ghost use Rattle.lwkt_request.specs.CommandLine.{IsBuilt, check, command_line, explore, file, flag, named, run, show, text, top, valued, with_bounds, with_random, with_settings, with_turns, with_views, with_ways};
+ghost use Rattle.lwkt_request.specs.CommandLine.{IsBuilt, check, command_line, explore, file, flag, named, run, show, text, top, valued, with_bounds, with_layouts, with_random, with_settings, with_turns, with_views, with_ways};
 
 use crate::pages::{
     CHECK, EXPLORE, EXPLORE_FILE, LWKT, Page, RUN, SCRIPT_FILE, SHOW, TEXT, TRACE_FILE, VERSION,
@@ -307,6 +307,24 @@ fn with_random<'a>(alloc: Global, command: Built<'a>) -> Built<'a>
     )
 }
 
+// The command with the options that choose how it is written what is found.
+fn with_layouts<'a>(alloc: Global, command: Built<'a>) -> Built<'a>
+    ensures { (app : App) → IfOk command.entry (IsBuilt app) → IfOk result (IsBuilt (with_layouts app)) }
+{
+    let command = with_flag(
+        alloc,
+        command,
+        "numbers",
+        "Write outcomes of a text in numbers, as those of JSON",
+    );
+    with_flag(
+        alloc,
+        command,
+        "json",
+        "Write what is found as one JSON object",
+    )
+}
+
 fn explore_command<'a>(alloc: Global) -> Built<'a>
     ensures { IfOk result (IsBuilt explore) }
 {
@@ -320,12 +338,7 @@ fn explore_command<'a>(alloc: Global) -> Built<'a>
         "progress",
         "Report each second how far the search is",
     );
-    let command = with_flag(
-        alloc,
-        command,
-        "numbers",
-        "Write outcomes of a text in numbers, as those of JSON",
-    );
+    let command = with_layouts(alloc, command);
     let command = with_flag(alloc, command, "all", "Try each script of the folder FILE");
     with_file(alloc, command, EXPLORE_FILE)
 }

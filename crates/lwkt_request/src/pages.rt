@@ -183,6 +183,10 @@ same as with --plain. With --random the outcomes have counts, the last line ends
 with `a part` alone, and --states, --memory and --plain do nothing. A seed gives
 the same orders on every machine.
 
+With --json one object has all of it: outcomes with their orders and closing
+values, by names for a text and else by numbers, and the verdicts. Standard
+error then has none.
+
 With --all FILE is a folder: each .lwkt and .json file in it is tried, and a
 line says how many passed.",
     after: "More: lwkt explore --help, and lwkt(7).",

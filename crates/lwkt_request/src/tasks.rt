@@ -2,13 +2,13 @@
 ghost use Rattle.std.specs.Prelude.{◌≡◌, is_ok};
 ghost use Rattle.std.specs.Option.{option_copied};
 ghost use Rattle.std.specs.Result.{result_ok};
-ghost use Rattle.lwkt_request.specs.Tasks.{explore_in, explored, fits, fits_order, fits_threads, form_of, has_range, is_chains, is_whole, options_of, rows_in, show_in, shown, task_in, text_in, rendering_of, states_by, wording_of};
+ghost use Rattle.lwkt_request.specs.Tasks.{explore_in, explored, fits, fits_order, fits_threads, form_of, has_range, is_chains, is_whole, layout_of, options_of, rows_in, show_in, shown, task_in, text_in, rendering_of, states_by, wording_of};
 
 use crate::matched::{is_on, value_in};
 use crate::ranges::{
     Range, are_parts, bytes_or, number_named, number_or, path_of, range_named, size_or,
 };
-use crate::requests::{Form, Search, Task, Wording};
+use crate::requests::{Form, Layout, Search, Task, Wording};
 use crate::wrongs::Wrong;
 use clap::ArgMatches;
 use lwkt_explore::{Bounds, Method};
@@ -208,6 +208,7 @@ struct ExploreWords<'a> {
     seconds: Option<&'a str>,
     progress: bool,
     in_numbers: bool,
+    json: bool,
     all: bool,
     has_path: bool,
 }
@@ -223,8 +224,15 @@ fn states_by(memory: Option<&str>) -> usize
     }
 }
 
+// The layout, by whether `--json` is named.
+fn layout_of(json: bool) -> Layout
+    ensures { result ≡ layout_of json }
+{
+    if json { Layout::Json } else { Layout::Lines }
+}
+
 fn explored<'a>(words: ExploreWords<'a>) -> Result<Task, Wrong<'a>>
-    ensures { result_ok result ≡ explored words.entry.plain words.entry.careful (option_copied words.entry.states) (option_copied words.entry.turns) (option_copied words.entry.memory) (option_copied words.entry.random) (option_copied words.entry.seed) (option_copied words.entry.seconds) words.entry.progress words.entry.in_numbers words.entry.all words.entry.has_path }
+    ensures { result_ok result ≡ explored words.entry.plain words.entry.careful (option_copied words.entry.states) (option_copied words.entry.turns) (option_copied words.entry.memory) (option_copied words.entry.random) (option_copied words.entry.seed) (option_copied words.entry.seconds) words.entry.progress words.entry.in_numbers words.entry.json words.entry.all words.entry.has_path }
 {
     let states = size_or("--states", words.states, states_by(words.memory))?;
     let turns = size_or("--turns", words.turns, 100_000)?;
@@ -252,6 +260,7 @@ fn explored<'a>(words: ExploreWords<'a>) -> Result<Task, Wrong<'a>>
         seconds,
         progress: words.progress,
         in_numbers: words.in_numbers,
+        layout: layout_of(words.json),
         all: words.all,
     }))
 }
@@ -270,6 +279,7 @@ fn explore_in<'a>(matches: &ArgMatches<'a>) -> Result<Task, Wrong<'a>>
         seconds: value_in(matches, "seconds"),
         progress: is_on(matches, "progress"),
         in_numbers: is_on(matches, "numbers"),
+        json: is_on(matches, "json"),
         all: is_on(matches, "all"),
         has_path: path_of(value_in(matches, "FILE")).is_some(),
     })
