@@ -1,8 +1,8 @@
 //! What stands in the box of a turn: the thread that ran, or for what one waits where none did.
-use crate::layouts::{NAME_LETTERS, ROW};
+use crate::layouts::NAME_LETTERS;
 use crate::reels::Scene;
 use crate::replays::Replay;
-use crate::shapes::{Point, show_cut, show_path, show_rect, show_text_at};
+use crate::shapes::{Point, digits, show_cut, show_path, show_rect, show_text_at, text_width};
 use crate::stories::{Doing, Story};
 use crate::words::{show_message, show_thread, show_token};
 use lwkt_base::{CpuId, MsgId, OutOfMemory, ThreadId, TokId};
@@ -10,6 +10,9 @@ use lwkt_core::State;
 use lwkt_refusals::Page;
 use lwkt_text::Names;
 use std::alloc::Global;
+
+// How wide a box is in which nothing stands, with what is around it.
+const NARROW: usize = 16;
 
 /// What a box shows. Of what threads wait for it shows what stands first here.
 #[derive(Clone, Copy, PartialEq, Eq)]
@@ -166,23 +169,91 @@ pub(crate) fn label_of(
     front.whole()
 }
 
+/// What stands in a box below its first line.
+#[derive(Clone, Copy)]
+pub(crate) enum Below<'a> {
+    /// Nothing: the first line stands in the middle.
+    Nothing,
+    /// These words.
+    Words(&'a str),
+    /// How many rounds share the box.
+    Rounds(usize),
+}
+
 /// A box, and what stands in it.
 #[derive(Clone, Copy)]
 pub(crate) struct Labelled<'a> {
     /// What it shows.
     pub content: Content,
-    /// What it says, but for a plus.
+    /// Its first line, but for a plus.
     pub label: &'a str,
+    /// What stands below that.
+    pub below: Below<'a>,
     /// How wide it is with what is around it.
     pub width: usize,
+    /// How high it is.
+    pub height: usize,
 }
 
-// Appends what a box says.
-fn show_label(out: &mut Page, shown: Labelled<'_>) {
+// How many letters the first line of a box has.
+fn letters_of(content: Content, label: &str) -> usize {
+    let more = if content.more { 1 } else { 0 };
+    label.len().saturating_add(more)
+}
+
+// How many letters stand below it.
+fn letters_below(below: Below<'_>) -> usize {
+    match below {
+        Below::Nothing => 0,
+        Below::Words(words) => words.len(),
+        Below::Rounds(rounds) => digits(rounds as u64).saturating_add(1),
+    }
+}
+
+/// How wide a box has to be with what is around it; wider where a thread ends faulted in it, for its cross.
+pub(crate) fn width_for(content: Content, label: &str, below: Below<'_>, crossed: bool) -> usize {
+    let letters = letters_of(content, label).max(letters_below(below));
+    let cross = if crossed { 14 } else { 0 };
+    text_width(letters)
+        .saturating_add(cross)
+        .saturating_add(11)
+        .max(NARROW)
+}
+
+// Appends the beginning of a line of so many letters in the middle of a box, as far below its top.
+fn begin_words(out: &mut Page, at: Point, width: usize, letters: usize, below: usize) {
+    let inset = width.saturating_sub(text_width(letters)) / 2;
+    show_text_at(out, at.by(inset, below), "");
+}
+
+// Appends the first line of a box.
+fn show_first(out: &mut Page, at: Point, shown: Labelled<'_>, width: usize) {
+    let below = match shown.below {
+        Below::Nothing => (shown.height / 2).saturating_add(4),
+        _ => (shown.height / 2).saturating_sub(3),
+    };
+    let letters = letters_of(shown.content, shown.label);
+    begin_words(out, at, width, letters, below);
     out.add(shown.label);
     if shown.content.more {
         out.add("+");
     }
+    out.add("</text>");
+}
+
+// Appends what stands below it.
+fn show_below(out: &mut Page, at: Point, shown: Labelled<'_>, width: usize) {
+    if let Below::Nothing = shown.below {
+        return;
+    }
+    let below = shown.height.saturating_sub(5);
+    begin_words(out, at, width, letters_below(shown.below), below);
+    match shown.below {
+        Below::Words(words) => out.add(words),
+        Below::Rounds(rounds) => out.size("&#215;", rounds),
+        Below::Nothing => {}
+    }
+    out.add("</text>");
 }
 
 /// Appends a box with what it says, crossed at its right if a thread ended faulted in it.
@@ -193,27 +264,27 @@ pub(crate) fn show_box(out: &mut Page, at: Point, shown: Labelled<'_>, crossed: 
         "idle"
     };
     let column = shown.width;
-    show_rect(out, at.by(2, 0), column.saturating_sub(4), ROW, class);
+    show_rect(
+        out,
+        at.by(2, 0),
+        column.saturating_sub(4),
+        shown.height,
+        class,
+    );
     out.add("/>");
-    let more = if shown.content.more { 1 } else { 0 };
-    let width = shown.label.len().saturating_add(more).saturating_mul(6);
-    let inset = if crossed {
-        5
+    let width = if crossed {
+        column.saturating_sub(12)
     } else {
-        column.saturating_sub(width) / 2
+        column
     };
-    if !crossed || width < column.saturating_sub(19) {
-        show_text_at(out, at.by(inset, ROW - 4), "");
-        show_label(out, shown);
-        out.add("</text>");
-    }
+    show_first(out, at, shown, width);
+    show_below(out, at, shown, width);
     if crossed {
-        show_path(
-            out,
-            at.by(column.saturating_sub(13), 3),
-            "l8 8m0 -8l-8 8",
-            "cross",
+        let corner = at.by(
+            column.saturating_sub(14),
+            (shown.height / 2).saturating_sub(4),
         );
+        show_path(out, corner, "l8 8m0 -8l-8 8", "cross");
         out.add("/>");
     }
 }

@@ -10,6 +10,7 @@
 
 mod boxes;
 mod chains;
+mod columns;
 mod conditions;
 mod drawings;
 mod ends;

@@ -2,15 +2,18 @@
 ghost use Rattle.std.specs.Prelude.{IfErr};
 ghost use Rattle.lwkt_show.specs.Shown.{MayBeRefused};
 
-use crate::boxes::{content_of, label_of};
+use crate::boxes::{Below, content_of, label_of, width_for as box_width};
+use crate::columns::{Columns, Need, Span};
 use crate::drawings::draw_sketch;
-use crate::labels::Tag;
-use crate::layouts::{Grid, Layout, ROW, widths_for};
+use crate::labels::{Labels, Tag};
+use crate::layouts::{BOX, Layout, left_for, width_for};
 use crate::legends::legend_of;
 use crate::options::Options;
 use crate::reels::{Reel, Scene, round_length, scene_of};
 use crate::replays::Replay;
-use crate::shapes::{BOLD, Point, draw, show_label, show_text_at, show_word};
+use crate::shapes::{
+    BOLD, Point, digits, draw, show_label, show_rule, show_text_at, show_word, text_width,
+};
 use crate::sketches::{Sketch, TurnBox};
 use crate::turns::{pass_turn, show_turn};
 use crate::words::show_token_at;
@@ -25,7 +28,7 @@ const PICTURE_LIMIT: usize = 2_000;
 
 // How the parts are drawn, and what hatches and arrow heads are.
 const STYLE: &str =
-    "<style>text{font:10px monospace;paint-order:stroke;stroke:#fff;stroke-width:2px}.full{fill:#000;stroke:#000}.hatched{fill:url(#lines);stroke:#000}.turn{fill:#fff;stroke:#000}.idle{fill:#fff;stroke:#666;stroke-dasharray:2 2}.way{stroke:#000;fill:none}.flag{stroke:#000;stroke-width:1.5}.cross{stroke:#000;stroke-width:2;fill:none}.bold{font-weight:bold}.value{fill:#fff;stroke:#000}</style>\n<defs><pattern id=\"lines\" width=\"4\" height=\"4\" patternUnits=\"userSpaceOnUse\" patternTransform=\"rotate(45)\"><rect width=\"4\" height=\"4\" fill=\"#fff\"/><path d=\"M1 0v4\" stroke=\"#000\"/></pattern><marker id=\"head\" viewBox=\"0 0 8 8\" refX=\"8\" refY=\"4\" markerWidth=\"7\" markerHeight=\"7\" orient=\"auto\"><path d=\"M0 0L8 4L0 8z\"/></marker></defs>\n";
+    "<style>text{font:12px monospace;paint-order:stroke;stroke:#fff;stroke-width:2px}.round{stroke:#ccc}.under{stroke:#fff;stroke-width:5}.full{fill:#000;stroke:#000}.hatched{fill:url(#lines);stroke:#000}.turn{fill:#fff;stroke:#000}.idle{fill:#fff;stroke:#666;stroke-dasharray:2 2}.way{stroke:#000;fill:none}.flag{stroke:#000;stroke-width:1.5}.cross{stroke:#000;stroke-width:2;fill:none}.bold{font-weight:bold}.value{fill:#fff;stroke:#000}</style>\n<defs><pattern id=\"lines\" width=\"4\" height=\"4\" patternUnits=\"userSpaceOnUse\" patternTransform=\"rotate(45)\"><rect width=\"4\" height=\"4\" fill=\"#fff\"/><path d=\"M1 0v4\" stroke=\"#000\"/></pattern><marker id=\"head\" viewBox=\"0 0 8 8\" refX=\"8\" refY=\"4\" markerWidth=\"7\" markerHeight=\"7\" orient=\"auto\"><path d=\"M0 0L8 4L0 8z\"/></marker></defs>\n";
 
 // Appends the beginning of a picture: its size, and how its parts are drawn.
 fn draw_head(out: &mut Page, width: usize, height: usize) {
@@ -33,7 +36,7 @@ fn draw_head(out: &mut Page, width: usize, height: usize) {
         "<svg xmlns=\"http://www.w3.org/2000/svg\" width=\"@\" height=\"@\" viewBox=\"0 0 @ @\">\n";
     draw(out, size, &[width, height, width, height]);
     out.add(
-        "<title>a run of a script: processors from top to bottom, rounds from left to right</title>\n",
+        "<title>a run of a script: processors from top to bottom, turns from left to right</title>\n",
     );
     out.add(STYLE);
     draw(
@@ -43,15 +46,43 @@ fn draw_head(out: &mut Page, width: usize, height: usize) {
     );
 }
 
-// Appends the numbers of a band's rounds: its first, and every fifth.
-fn draw_rounds(out: &mut Page, layout: &Layout, band: usize) {
+// Whether a column begins a round, or rounds.
+fn begins_round(before: Option<usize>, round: usize) -> bool {
+    before != Some(round)
+}
+
+// Appends a faint line where a round begins.
+fn draw_round_line(out: &mut Page, layout: &Layout, band: usize, x: usize) {
+    let from = Point {
+        x,
+        y: layout.head(band).saturating_sub(10),
+    };
+    let to = Point {
+        x,
+        y: layout.foot(band),
+    };
+    show_rule(out, from, to, "round");
+}
+
+// Appends the numbers of a band's rounds, as many as have room, with a line where each begins; along an order those of its turns.
+fn draw_rounds(out: &mut Page, layout: &Layout, band: usize, along: bool) {
     let y = layout.head(band);
-    let begin = layout.grid.begin(band);
-    show_word(out, Point { x: 4, y }, "round");
-    for round in begin..layout.grid.end(band).saturating_add(1) {
-        if round % 5 == 0 || round == begin {
-            let x = layout.grid.x(round).saturating_add(4);
-            show_label(out, Point { x, y }, "", "", round);
+    let word = if along { "turn" } else { "round" };
+    show_word(out, Point { x: 4, y }, word);
+    let mut before = None;
+    let mut free = 0usize;
+    for column in &layout.columns.list {
+        if column.band == band && begins_round(before, column.round) {
+            before = Some(column.round);
+            if !along {
+                draw_round_line(out, layout, band, column.x);
+            }
+            if column.x >= free {
+                let x = column.x.saturating_add(4);
+                show_label(out, Point { x, y }, "", "", column.round);
+                let letters = digits(column.round as u64).saturating_add(1);
+                free = x.saturating_add(text_width(letters));
+            }
         }
     }
     out.add("\n");
@@ -69,11 +100,11 @@ fn draw_token(out: &mut Page, names: Option<&Names>, at: Point, tok: usize) {
 
 // Appends what a processor and its tokens are called in a band.
 fn draw_names(out: &mut Page, names: Option<&Names>, layout: &Layout, band: usize, cpu: usize) {
-    let y = layout.top(band, cpu).saturating_add(ROW - 4);
+    let y = layout.top(band, cpu).saturating_add(BOX / 2 + 4);
     show_label(out, Point { x: 4, y }, BOLD, "processor ", cpu);
     for tok in 0..64usize {
         if let Some(row) = layout.row(band, cpu, tok) {
-            let y = row.saturating_add(ROW - 5);
+            let y = row.saturating_add(11);
             draw_token(out, names, Point { x: 16, y }, tok);
         }
     }
@@ -81,8 +112,15 @@ fn draw_names(out: &mut Page, names: Option<&Names>, layout: &Layout, band: usiz
 }
 
 // Appends the names and the numbers of rounds of a band.
-fn draw_band(out: &mut Page, names: Option<&Names>, layout: &Layout, band: usize, cpus: usize) {
-    draw_rounds(out, layout, band);
+fn draw_band(
+    out: &mut Page,
+    names: Option<&Names>,
+    layout: &Layout,
+    band: usize,
+    cpus: usize,
+    along: bool,
+) {
+    draw_rounds(out, layout, band, along);
     for cpu in 0..cpus {
         draw_names(out, names, layout, band, cpu);
     }
@@ -111,33 +149,42 @@ fn fault_of(replay: &Replay, scene: &Scene) -> Option<(Fault, bool)> {
     }
 }
 
-// Makes a turn happen, and notes its box.
-fn play_turn(
+// Whether nothing changes in a turn: no thread runs or ends, and nothing happens to a token or a message.
+fn is_idle(replay: &Replay, scene: &Scene) -> bool {
+    scene.poll.is_none() && scene.part.is_empty() && ended_by(replay, scene).is_none()
+}
+
+// Notes the box of a turn, which has been made, with its line.
+fn note_box(
     alloc: Global,
     names: Option<&Names>,
     sketch: &mut Sketch,
-    replay: &mut Replay,
+    replay: &Replay,
     scene: &Scene,
+    line: Page,
 ) -> Result<(), OutOfMemory> {
-    let mut line = Page::new(alloc);
-    show_turn(alloc, names, replay, &mut line, scene);
     let cpu = usize::from(scene.cpu);
     let mut crossed = false;
     if let Some((fault, ends)) = fault_of(replay, scene) {
         crossed = ends;
-        let tag = Tag::Fault(fault, ends);
-        sketch.tag(alloc, names, scene.round, cpu, tag)?;
+        sketch.tag(scene.number, cpu, Tag::Fault(fault, ends))?;
     }
     let content = content_of(replay, scene);
-    let turn = TurnBox {
+    let label = label_of(alloc, names, scene.cpu, content)?;
+    let need = Need {
         round: scene.round,
+        width: box_width(content, label.as_str(), Below::Nothing, crossed),
+        is_idle: is_idle(replay, scene),
+    };
+    let turn = TurnBox {
+        turn: scene.number,
         cpu,
         content,
-        label: label_of(alloc, names, scene.cpu, content)?,
+        label,
         crossed,
         line,
     };
-    push(&mut sketch.boxes, turn)
+    sketch.add_box(turn, need)
 }
 
 // Notes a turn, which is before the first that is shown, or is shown.
@@ -150,12 +197,14 @@ fn note_turn(
     is_shown: bool,
 ) -> Result<(), OutOfMemory> {
     if is_shown {
-        play_turn(alloc, names, sketch, replay, scene)?;
+        let mut line = Page::new(alloc);
+        show_turn(alloc, names, replay, &mut line, scene);
+        note_box(alloc, names, sketch, replay, scene, line)?;
     } else {
         pass_turn(alloc, names, replay, scene);
     }
     for event in scene.part {
-        sketch.note(alloc, names, replay, event, scene.round)?;
+        sketch.note(replay, event, scene.number)?;
     }
     Ok(())
 }
@@ -181,13 +230,6 @@ fn note_turns(
     sketch.finish()
 }
 
-// The turns that a picture shows, from the first to the last.
-#[derive(Clone, Copy)]
-struct Span {
-    first: usize,
-    last: usize,
-}
-
 // The turns of a run that these options show.
 fn shown_of(run: &Reel, chosen: Options) -> Span {
     let end = run.turns.len().saturating_sub(1);
@@ -209,31 +251,20 @@ fn draw_choice(out: &mut Page, y: usize, turns: usize, shown: Span) {
     out.add(" are shown, chosen by --turns A..B or --rounds A..B</text>\n");
 }
 
-// The rounds of the turns that are shown: along an order each turn is a round of its own.
-fn grid_of(names: Option<&Names>, run: &Reel, shown: Span, cpus: usize) -> Grid {
-    let turns = match run.order {
-        Some(_) => 1,
-        None => cpus.max(1),
-    };
-    Grid {
-        first: shown.first / turns,
-        last: shown.last / turns,
-        widths: widths_for(names),
-    }
-}
-
 // Appends a picture.
 fn draw_picture(
     out: &mut Page,
     names: Option<&Names>,
+    run: &Reel,
     layout: &Layout,
     sketch: &Sketch,
-    cpus: usize,
+    labels: &Labels,
 ) {
-    for band in 0..layout.grid.bands() {
-        draw_band(out, names, layout, band, cpus);
+    let cpus = round_length(run.script.cpus);
+    for band in 0..layout.columns.bands() {
+        draw_band(out, names, layout, band, cpus, run.order.is_some());
     }
-    draw_sketch(out, names, layout, sketch);
+    draw_sketch(out, names, layout, sketch, &labels.list);
 }
 
 // The picture of a run that is made again.
@@ -246,14 +277,16 @@ fn picture(
 ) -> Result<String, OutOfMemory> {
     let cpus = round_length(run.script.cpus);
     let shown = shown_of(run, chosen);
-    let grid = grid_of(names, run, shown, cpus);
-    let mut sketch = Sketch::new(alloc, grid)?;
+    let mut sketch = Sketch::new(alloc, shown)?;
     note_turns(alloc, names, run, &mut sketch, replay, shown)?;
-    let layout = Layout::new(alloc, cpus, grid, run.trace, &sketch.labels.lines)?;
-    let (legend, end) = legend_of(alloc, names, &sketch, layout.height, grid.width());
+    let columns = Columns::new(alloc, shown, left_for(names), &sketch.needs)?;
+    let labels = Labels::new(alloc, names, &columns, &sketch.tags)?;
+    let width = width_for(&columns);
+    let layout = Layout::new(alloc, cpus, columns, run.trace, &labels.lines)?;
+    let (legend, end) = legend_of(alloc, names, &sketch, &labels.list, layout.height, width);
     let mut out = Page::new(alloc);
-    draw_head(&mut out, grid.width(), end.saturating_add(20));
-    draw_picture(&mut out, names, &layout, &sketch, cpus);
+    draw_head(&mut out, width, end.saturating_add(20));
+    draw_picture(&mut out, names, run, &layout, &sketch, &labels);
     out.add_page(&legend);
     draw_choice(&mut out, end.saturating_add(10), run.turns.len(), shown);
     out.add("</svg>\n");

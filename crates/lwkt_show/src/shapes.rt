@@ -10,9 +10,14 @@ pub(crate) const VALUE: &str = " class=\"value\"";
 /// How wide so many letters are, in pixels.
 pub(crate) fn text_width(letters: usize) -> usize {
     letters
-        .saturating_mul(6)
-        .saturating_add(letters / 16)
+        .saturating_mul(7)
+        .saturating_add(letters / 4)
         .saturating_add(1)
+}
+
+/// How many letters have room in so many pixels.
+pub(crate) fn letters_in(width: usize) -> usize {
+    width.saturating_mul(4) / 29
 }
 
 /// How many digits a number has.
@@ -129,14 +134,29 @@ pub(crate) struct Look {
     pub is_urgent: bool,
 }
 
-/// Appends a line of a message, dashed for a reply and thick if it is urgent; with an arrow head if it arrives.
-pub(crate) fn show_line(out: &mut Page, from: Point, to: Point, look: Look, arrives: bool) {
+// Appends the beginning of a line of a class.
+fn begin_line(out: &mut Page, from: Point, to: Point, class: &str) {
     let numbers = [from.x, from.y, to.x, to.y];
     draw(
         out,
-        "<line x1=\"@\" y1=\"@\" x2=\"@\" y2=\"@\" class=\"way\"",
+        "<line x1=\"@\" y1=\"@\" x2=\"@\" y2=\"@\" class=\"",
         &numbers,
     );
+    out.add(class);
+    out.add("\"");
+}
+
+/// Appends a line of a class.
+pub(crate) fn show_rule(out: &mut Page, from: Point, to: Point, class: &str) {
+    begin_line(out, from, to, class);
+    out.add("/>");
+}
+
+/// Appends a line of a message, dashed for a reply and thick if it is urgent; with an arrow head if it arrives. A white line below keeps
+/// it apart from what it crosses.
+pub(crate) fn show_line(out: &mut Page, from: Point, to: Point, look: Look, arrives: bool) {
+    show_rule(out, from, to, "under");
+    begin_line(out, from, to, "way");
     if look.is_urgent {
         out.add(" style=\"stroke-width:3\"");
     }
