@@ -1,7 +1,9 @@
 pub mod Apart
+pub mod Circles
 pub mod Computed
 pub mod Keeping
 pub mod Lines
 pub mod Showing
 pub mod Shown
+pub mod Verdicts
 pub mod Words

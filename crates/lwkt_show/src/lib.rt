@@ -10,6 +10,7 @@
 
 mod boxes;
 mod chains;
+mod circles;
 mod columns;
 mod conditions;
 mod drawings;
@@ -33,6 +34,7 @@ mod stories;
 mod tokens;
 mod tries;
 mod turns;
+mod verdicts;
 mod walks;
 mod ways;
 mod whys;

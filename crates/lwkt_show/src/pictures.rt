@@ -16,6 +16,7 @@ use crate::shapes::{
 };
 use crate::sketches::{Sketch, TurnBox};
 use crate::turns::{pass_turn, show_turn};
+use crate::verdicts::show_verdict;
 use crate::words::show_token_at;
 use lwkt_base::memory::push;
 use lwkt_base::{Answer, Fault, OutOfMemory, ThreadState};
@@ -26,9 +27,12 @@ use std::alloc::Global;
 // The most turns that a picture shows.
 const PICTURE_LIMIT: usize = 2_000;
 
+// How high the line is in which the run's end is told.
+const VERDICT: usize = 16;
+
 // How the parts are drawn, and what hatches and arrow heads are.
 const STYLE: &str =
-    "<style>text{font:12px monospace;paint-order:stroke;stroke:#fff;stroke-width:2px}.round{stroke:#ccc}.under{stroke:#fff;stroke-width:5}.full{fill:#000;stroke:#000}.hatched{fill:url(#lines);stroke:#000}.turn{fill:#fff;stroke:#000}.idle{fill:#fff;stroke:#666;stroke-dasharray:2 2}.way{stroke:#000;fill:none}.flag{stroke:#000;stroke-width:1.5}.cross{stroke:#000;stroke-width:2;fill:none}.bold{font-weight:bold}.value{fill:#fff;stroke:#000}</style>\n<defs><pattern id=\"lines\" width=\"4\" height=\"4\" patternUnits=\"userSpaceOnUse\" patternTransform=\"rotate(45)\"><rect width=\"4\" height=\"4\" fill=\"#fff\"/><path d=\"M1 0v4\" stroke=\"#000\"/></pattern><marker id=\"head\" viewBox=\"0 0 8 8\" refX=\"8\" refY=\"4\" markerWidth=\"7\" markerHeight=\"7\" orient=\"auto\"><path d=\"M0 0L8 4L0 8z\"/></marker></defs>\n";
+    "<style>text{font:12px monospace;paint-order:stroke;stroke:#fff;stroke-width:2px}.round{stroke:#ccc}.under{stroke:#fff;stroke-width:5}.full{fill:#000;stroke:#000}.hatched{fill:url(#lines);stroke:#000}.turn{fill:#fff;stroke:#000}.idle{fill:#fff;stroke:#666;stroke-dasharray:2 2}.way{stroke:#000;fill:none}.flag{stroke:#000;stroke-width:1.5}.cross{stroke:#000;stroke-width:2;fill:none}.bold{font-weight:bold}.bad{fill:#b00000}.value{fill:#fff;stroke:#000}</style>\n<defs><pattern id=\"lines\" width=\"4\" height=\"4\" patternUnits=\"userSpaceOnUse\" patternTransform=\"rotate(45)\"><rect width=\"4\" height=\"4\" fill=\"#fff\"/><path d=\"M1 0v4\" stroke=\"#000\"/></pattern><marker id=\"head\" viewBox=\"0 0 8 8\" refX=\"8\" refY=\"4\" markerWidth=\"7\" markerHeight=\"7\" orient=\"auto\"><path d=\"M0 0L8 4L0 8z\"/></marker></defs>\n";
 
 // Appends the beginning of a picture: its size, and how its parts are drawn.
 fn draw_head(out: &mut Page, width: usize, height: usize) {
@@ -283,10 +287,14 @@ fn picture(
     let labels = Labels::new(alloc, names, &columns, &sketch.tags)?;
     let width = width_for(&columns);
     let layout = Layout::new(alloc, cpus, columns, run.trace, &labels.lines)?;
-    let (legend, end) = legend_of(alloc, names, &sketch, &labels.list, layout.height, width);
+    let top = layout.height.saturating_add(VERDICT);
+    let (legend, end) = legend_of(alloc, names, &sketch, &labels.list, top, width);
     let mut out = Page::new(alloc);
     draw_head(&mut out, width, end.saturating_add(20));
     draw_picture(&mut out, names, run, &layout, &sketch, &labels);
+    if shown.last >= run.turns.len().saturating_sub(1) {
+        show_verdict(alloc, &mut out, names, run, replay, layout.height)?;
+    }
     out.add_page(&legend);
     draw_choice(&mut out, end.saturating_add(10), run.turns.len(), shown);
     out.add("</svg>\n");
