@@ -1,6 +1,7 @@
 pub mod Apart
 pub mod Circles
 pub mod Computed
+pub mod Deeds
 pub mod Keeping
 pub mod Lines
 pub mod Showing

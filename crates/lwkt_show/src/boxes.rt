@@ -1,4 +1,5 @@
 //! What stands in the box of a turn: the thread that ran, or for what one waits where none did.
+use crate::deeds::show_deed;
 use crate::layouts::NAME_LETTERS;
 use crate::reels::Scene;
 use crate::replays::Replay;
@@ -9,7 +10,11 @@ use lwkt_base::{CpuId, MsgId, OutOfMemory, ThreadId, TokId};
 use lwkt_core::State;
 use lwkt_refusals::Page;
 use lwkt_text::Names;
+use lwkt_verdict::Poll;
 use std::alloc::Global;
+
+// The most letters of what a thread does.
+const DEED_LETTERS: usize = 16;
 
 // How wide a box is in which nothing stands, with what is around it.
 const NARROW: usize = 16;
@@ -163,10 +168,37 @@ pub(crate) fn label_of(
         Some(names) => show_name(&mut page, names, cpu, content),
         None => show_number(&mut page, content),
     }
-    let label = page.whole()?;
+    cut_of(alloc, page, NAME_LETTERS)
+}
+
+// The front of a page, in so many letters.
+fn cut_of(alloc: Global, page: Page, letters: usize) -> Result<String, OutOfMemory> {
+    let whole = page.whole()?;
     let mut front = Page::new(alloc);
-    show_cut(&mut front, label.as_str(), NAME_LETTERS);
+    show_cut(&mut front, whole.as_str(), letters);
     front.whole()
+}
+
+/// What a thread does in a turn by its poll, in few letters.
+pub(crate) fn deed_of(
+    alloc: Global,
+    names: Option<&Names>,
+    poll: &Poll,
+) -> Result<String, OutOfMemory> {
+    let mut page = Page::new(alloc);
+    show_deed(&mut page, names, &poll.ask, poll.answer);
+    cut_of(alloc, page, DEED_LETTERS)
+}
+
+/// Whether a processor has one thread only.
+pub(crate) fn is_alone(replay: &Replay, cpu: u8) -> bool {
+    let mut count = 0usize;
+    for story in &replay.stories {
+        if story.id.cpu.0 == cpu {
+            count = count.saturating_add(1);
+        }
+    }
+    count == 1
 }
 
 /// What stands in a box below its first line.
@@ -178,6 +210,17 @@ pub(crate) enum Below<'a> {
     Words(&'a str),
     /// How many rounds share the box.
     Rounds(usize),
+}
+
+/// What stands below the first line of a box that so many rounds share, whose thread does this.
+pub(crate) fn below_of<'a>(rounds: usize, deed: &'a str) -> Below<'a> {
+    if rounds > 1 {
+        Below::Rounds(rounds)
+    } else if deed.is_empty() {
+        Below::Nothing
+    } else {
+        Below::Words(deed)
+    }
 }
 
 /// A box, and what stands in it.

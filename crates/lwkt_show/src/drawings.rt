@@ -1,16 +1,16 @@
 //! How the parts of a picture are drawn.
-use crate::boxes::{Below, Labelled, show_box};
+use crate::boxes::{Labelled, below_of, show_box};
 use crate::columns::Column;
 use crate::labels::{Label, Tag};
 use crate::layouts::{BOX, Layout, ROW, Spot};
 use crate::shapes::{
-    BOLD, Point, VALUE, digits, draw, letters_in, show_flag, show_line, show_rect, show_ring,
-    show_text_at,
+    BOLD, Point, digits, draw, letters_in, show_bar, show_flag, show_line, show_ring, show_text_at,
+    value_class,
 };
 use crate::sketches::{Bar, Sketch, Stored, TurnBox, Way};
 use crate::words::{mode_word, show_cell, show_fault, show_message, show_token_at};
+use lwkt_base::Fault;
 use lwkt_base::limits::CPU_LIMIT;
-use lwkt_base::{Fault, Mode};
 use lwkt_refusals::Page;
 use lwkt_text::Names;
 use lwkt_told::{Called, cells_of};
@@ -18,26 +18,14 @@ use lwkt_told::{Called, cells_of};
 // The fewest letters of a value that are worth their room.
 const VALUE_LETTERS: usize = 4;
 
-/// The class of a bar.
-pub(crate) fn bar_class(mode: Mode) -> &'static str {
-    match mode {
-        Mode::Exclusive => "full",
-        Mode::Shared => "hatched",
-    }
-}
-
-// Appends what a bar says, and its end.
+// Appends what a bar says.
 fn show_bar_title(out: &mut Page, names: Option<&Names>, bar: &Bar) {
-    out.add("><title>token ");
+    out.add("<title>token ");
     show_token_at(out, names, bar.spot.tok);
     out.add(" held ");
     out.add(mode_word(bar.mode));
     let numbers = [bar.spot.cpu, bar.spot.turn, bar.until];
-    draw(
-        out,
-        " by processor @, turns @ to @</title></rect>\n",
-        &numbers,
-    );
+    draw(out, " by processor @, turns @ to @</title>", &numbers);
 }
 
 // Where a bar begins in a band: at the band's edge if it goes on from before.
@@ -64,8 +52,11 @@ fn draw_bar(out: &mut Page, names: Option<&Names>, layout: &Layout, bar: &Bar) {
         if let Some(y) = layout.row(band, bar.spot.cpu, bar.spot.tok) {
             let x = bar_begin(layout, bar, band);
             let width = bar_end(layout, bar, band).saturating_sub(x);
-            show_rect(out, Point { x, y }, width, ROW - 3, bar_class(bar.mode));
+            out.add("<g>");
             show_bar_title(out, names, bar);
+            let at = Point { x, y };
+            show_bar(out, at, width, ROW - 3, bar.spot.tok, bar.mode);
+            out.add("</g>\n");
         }
     }
 }
@@ -135,12 +126,15 @@ pub(crate) fn show_stored(
     stored: &Stored,
     room: usize,
 ) {
-    show_text_at(out, at, VALUE);
+    show_text_at(out, at, value_class(stored.spot.tok, stored.mode));
     out.add("<title>");
     show_cell(out, names, stored.tok, stored.cell);
-    out.number(" is now ", stored.value);
+    out.number(
+        if stored.is_read { " is " } else { " is now " },
+        stored.value,
+    );
     if stored.more {
-        out.add("; further cells are stored in the same turn");
+        out.add("; further cells are read or stored in the same turn");
     }
     out.add("</title>");
     match names {
@@ -287,11 +281,7 @@ fn draw_box(out: &mut Page, layout: &Layout, column: Column, turn: &TurnBox) {
     let shown = Labelled {
         content: turn.content,
         label: turn.label.as_str(),
-        below: if column.rounds > 1 {
-            Below::Rounds(column.rounds)
-        } else {
-            Below::Nothing
-        },
+        below: below_of(column.rounds, turn.deed.as_str()),
         width: column.width,
         height: BOX,
     };

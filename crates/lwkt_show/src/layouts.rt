@@ -38,8 +38,8 @@ const HEAD: usize = 16;
 
 const GAP: usize = 8;
 
-// The most letters of a name that stand at the left.
-const LEFT_LETTERS: usize = 24;
+/// The most letters of a name that stand at the left.
+pub(crate) const LEFT_LETTERS: usize = 20;
 
 /// What stands left of a band's first turn, with some names or else with numbers.
 pub(crate) fn left_for(names: Option<&Names>) -> usize {

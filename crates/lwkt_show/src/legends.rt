@@ -1,9 +1,9 @@
 //! What the parts of a picture mean, of those that it has.
 use crate::boxes::{Below, Content, Kind, Labelled, show_box, width_for};
-use crate::drawings::{bar_class, show_stored};
+use crate::drawings::show_stored;
 use crate::labels::{Label, Tag};
 use crate::shapes::{
-    BOLD, Look, Point, show_flag, show_label, show_line, show_rect, show_ring, show_text_at,
+    BOLD, Look, Point, show_bar, show_flag, show_label, show_line, show_ring, show_text_at,
     show_word, text_width,
 };
 use crate::sketches::{Bar, Sketch, Stored, TurnBox, Way};
@@ -69,20 +69,19 @@ impl Legend {
     }
 
     // Appends the sign of a bar and its meaning.
-    fn add_bar(&mut self, mode: Mode, meaning: &str) {
+    fn add_bar(&mut self, tok: usize, mode: Mode, meaning: &str) {
         let at = self.next(SIGN, meaning.len());
-        show_rect(&mut self.page, at.by(0, 3), SIGN, 14, bar_class(mode));
-        self.page.add("/>");
+        show_bar(&mut self.page, at.by(0, 3), SIGN, 14, tok, mode);
         self.mean(at, SIGN, meaning);
     }
 
     // Appends a value on a bar, and the meaning of values.
     fn add_value(&mut self, names: Option<&Names>, stored: &Stored) {
-        let meaning = "a cell and what it is now";
+        let meaning = "a cell and its value, read or written";
         let sign = text_width(VALUE_LETTERS).saturating_add(8);
         let at = self.next(sign, meaning.len());
-        show_rect(&mut self.page, at.by(0, 3), sign, 14, "full");
-        self.page.add("/>");
+        let tok = stored.spot.tok;
+        show_bar(&mut self.page, at.by(0, 3), sign, 14, tok, stored.mode);
         show_stored(&mut self.page, names, at.by(4, 14), stored, VALUE_LETTERS);
         self.mean(at, sign, meaning);
     }
@@ -167,10 +166,23 @@ fn add_kind(legend: &mut Legend, sketch: &Sketch, kind: Option<Kind>, meaning: &
     }
 }
 
+// Whether the first box of a thread that runs says what it does below the thread.
+fn has_deeds(boxes: &[TurnBox]) -> bool {
+    match first_box(boxes, Some(Kind::Thread)) {
+        Some(turn) => !turn.deed.is_empty(),
+        None => false,
+    }
+}
+
 // Appends what boxes mean.
 fn add_boxes(legend: &mut Legend, sketch: &Sketch) {
     let reply = "none runs: one waits for the reply to this message";
-    add_kind(legend, sketch, Some(Kind::Thread), "this thread runs");
+    let runs = if has_deeds(&sketch.boxes) {
+        "this thread runs, and does what stands below"
+    } else {
+        "what the thread does: = writes, + adds"
+    };
+    add_kind(legend, sketch, Some(Kind::Thread), runs);
     add_kind(
         legend,
         sketch,
@@ -193,7 +205,7 @@ fn add_boxes(legend: &mut Legend, sketch: &Sketch) {
 fn add_bars(legend: &mut Legend, bars: &[Bar], mode: Mode, meaning: &str) {
     for bar in bars {
         if bar.mode == mode {
-            return legend.add_bar(mode, meaning);
+            return legend.add_bar(bar.spot.tok, mode, meaning);
         }
     }
 }

@@ -13,6 +13,7 @@ mod chains;
 mod circles;
 mod columns;
 mod conditions;
+mod deeds;
 mod drawings;
 mod ends;
 mod events;

@@ -2,24 +2,24 @@
 ghost use Rattle.std.specs.Prelude.{IfErr};
 ghost use Rattle.lwkt_show.specs.Shown.{MayBeRefused};
 
-use crate::boxes::{Below, content_of, label_of, width_for as box_width};
+use crate::boxes::{below_of, content_of, deed_of, is_alone, label_of, width_for as box_width};
 use crate::columns::{Columns, Need, Span};
 use crate::drawings::draw_sketch;
 use crate::labels::{Labels, Tag};
-use crate::layouts::{BOX, Layout, left_for, width_for};
+use crate::layouts::{BOX, LEFT_LETTERS, Layout, left_for, width_for};
 use crate::legends::legend_of;
 use crate::options::Options;
 use crate::reels::{Reel, Scene, round_length, scene_of};
 use crate::replays::Replay;
 use crate::shapes::{
-    BOLD, Point, digits, draw, show_label, show_rule, show_text_at, show_word, text_width,
+    BOLD, Point, digits, draw, show_cut, show_label, show_rule, show_text_at, show_word, text_width,
 };
 use crate::sketches::{Sketch, TurnBox};
 use crate::turns::{pass_turn, show_turn};
 use crate::verdicts::show_verdict;
-use crate::words::show_token_at;
+use crate::words::{show_thread, show_token_at};
 use lwkt_base::memory::push;
-use lwkt_base::{Answer, Fault, OutOfMemory, ThreadState};
+use lwkt_base::{Answer, Fault, OutOfMemory, ThreadId, ThreadState};
 use lwkt_refusals::Page;
 use lwkt_text::Names;
 use std::alloc::Global;
@@ -32,7 +32,7 @@ const VERDICT: usize = 16;
 
 // How the parts are drawn, and what hatches and arrow heads are.
 const STYLE: &str =
-    "<style>text{font:12px monospace;paint-order:stroke;stroke:#fff;stroke-width:2px}.round{stroke:#ccc}.under{stroke:#fff;stroke-width:5}.full{fill:#000;stroke:#000}.hatched{fill:url(#lines);stroke:#000}.turn{fill:#fff;stroke:#000}.idle{fill:#fff;stroke:#666;stroke-dasharray:2 2}.way{stroke:#000;fill:none}.flag{stroke:#000;stroke-width:1.5}.cross{stroke:#000;stroke-width:2;fill:none}.bold{font-weight:bold}.bad{fill:#b00000}.value{fill:#fff;stroke:#000}</style>\n<defs><pattern id=\"lines\" width=\"4\" height=\"4\" patternUnits=\"userSpaceOnUse\" patternTransform=\"rotate(45)\"><rect width=\"4\" height=\"4\" fill=\"#fff\"/><path d=\"M1 0v4\" stroke=\"#000\"/></pattern><marker id=\"head\" viewBox=\"0 0 8 8\" refX=\"8\" refY=\"4\" markerWidth=\"7\" markerHeight=\"7\" orient=\"auto\"><path d=\"M0 0L8 4L0 8z\"/></marker></defs>\n";
+    "<style>text{font:12px monospace;paint-order:stroke;stroke:#fff;stroke-width:2px}.round{stroke:#ccc}.under{stroke:#fff;stroke-width:5}.bar{stroke:#000}.t0{fill:#0072b2}.t1{fill:#e69f00}.t2{fill:#009e73}.t3{fill:#d55e00}.t4{fill:#56b4e9}.t5{fill:#cc79a7}.t6{fill:#f0e442}.t7{fill:#000}.shared{fill:url(#lines)}.turn{fill:#fff;stroke:#000}.idle{fill:#fff;stroke:#666;stroke-dasharray:2 2}.way{stroke:#000;fill:none}.flag{stroke:#000;stroke-width:1.5}.cross{stroke:#000;stroke-width:2;fill:none}.bold{font-weight:bold}.bad{fill:#b00000}.light{fill:#fff;stroke:none}.dark{stroke:none}</style>\n<defs><pattern id=\"lines\" width=\"6\" height=\"6\" patternUnits=\"userSpaceOnUse\" patternTransform=\"rotate(45)\"><path d=\"M2 0v6\" stroke=\"#fff\" stroke-width=\"3\"/></pattern><marker id=\"head\" viewBox=\"0 0 8 8\" refX=\"8\" refY=\"4\" markerWidth=\"7\" markerHeight=\"7\" orient=\"auto\"><path d=\"M0 0L8 4L0 8z\"/></marker></defs>\n";
 
 // Appends the beginning of a picture: its size, and how its parts are drawn.
 fn draw_head(out: &mut Page, width: usize, height: usize) {
@@ -92,42 +92,106 @@ fn draw_rounds(out: &mut Page, layout: &Layout, band: usize, along: bool) {
     out.add("\n");
 }
 
-// Appends what a token is called, at a place.
-fn draw_token(out: &mut Page, names: Option<&Names>, at: Point, tok: usize) {
+// Appends what stands on a page, at a place at the left; of a long text the front.
+fn draw_left(out: &mut Page, at: Point, page: Page) -> Result<(), OutOfMemory> {
+    let text = page.whole()?;
     show_text_at(out, at, "");
+    show_cut(out, text.as_str(), LEFT_LETTERS);
+    out.add("</text>");
+    Ok(())
+}
+
+// Appends what a token is called, at a place.
+fn draw_token(
+    alloc: Global,
+    out: &mut Page,
+    names: Option<&Names>,
+    at: Point,
+    tok: usize,
+) -> Result<(), OutOfMemory> {
+    let mut page = Page::new(alloc);
     if names.is_none() {
-        out.add("token ");
+        page.add("token ");
     }
-    show_token_at(out, names, tok);
-    out.add("</text>")
+    show_token_at(&mut page, names, tok);
+    draw_left(out, at, page)
+}
+
+// Appends what a processor is called, and below that its thread if it has no other.
+fn draw_processor(
+    alloc: Global,
+    out: &mut Page,
+    names: Option<&Names>,
+    at: Point,
+    cpu: usize,
+    alone: Option<ThreadId>,
+) -> Result<(), OutOfMemory> {
+    let Some(id) = alone else {
+        show_label(out, at.by(0, BOX / 2 + 4), BOLD, "processor ", cpu);
+        return Ok(());
+    };
+    show_label(out, at.by(0, BOX / 2 - 3), BOLD, "processor ", cpu);
+    let mut page = Page::new(alloc);
+    if names.is_none() {
+        page.add("thread ");
+    }
+    show_thread(&mut page, names, id);
+    draw_left(out, at.by(12, BOX - 5), page)
+}
+
+// The one thread of a processor, if it has no other.
+fn alone_on(run: &Reel, cpu: usize) -> Option<ThreadId> {
+    let mut found = None;
+    for line in &run.closing.threads {
+        if usize::from(line.id.cpu.0) == cpu {
+            if found.is_some() {
+                return None;
+            }
+            found = Some(line.id);
+        }
+    }
+    found
 }
 
 // Appends what a processor and its tokens are called in a band.
-fn draw_names(out: &mut Page, names: Option<&Names>, layout: &Layout, band: usize, cpu: usize) {
-    let y = layout.top(band, cpu).saturating_add(BOX / 2 + 4);
-    show_label(out, Point { x: 4, y }, BOLD, "processor ", cpu);
+fn draw_names(
+    alloc: Global,
+    out: &mut Page,
+    names: Option<&Names>,
+    run: &Reel,
+    layout: &Layout,
+    band: usize,
+    cpu: usize,
+) -> Result<(), OutOfMemory> {
+    let at = Point {
+        x: 4,
+        y: layout.top(band, cpu),
+    };
+    draw_processor(alloc, out, names, at, cpu, alone_on(run, cpu))?;
     for tok in 0..64usize {
         if let Some(row) = layout.row(band, cpu, tok) {
             let y = row.saturating_add(11);
-            draw_token(out, names, Point { x: 16, y }, tok);
+            draw_token(alloc, out, names, Point { x: 16, y }, tok)?;
         }
     }
     out.add("\n");
+    Ok(())
 }
 
 // Appends the names and the numbers of rounds of a band.
 fn draw_band(
+    alloc: Global,
     out: &mut Page,
     names: Option<&Names>,
+    run: &Reel,
     layout: &Layout,
     band: usize,
-    cpus: usize,
-    along: bool,
-) {
-    draw_rounds(out, layout, band, along);
-    for cpu in 0..cpus {
-        draw_names(out, names, layout, band, cpu);
+) -> Result<(), OutOfMemory> {
+    draw_rounds(out, layout, band, run.order.is_some());
+    for cpu in 0..round_length(run.script.cpus) {
+        draw_names(alloc, out, names, run, layout, band, cpu)?;
     }
+    Ok(())
 }
 
 // The fault with which a thread ended in a turn.
@@ -158,6 +222,25 @@ fn is_idle(replay: &Replay, scene: &Scene) -> bool {
     scene.poll.is_none() && scene.part.is_empty() && ended_by(replay, scene).is_none()
 }
 
+// What the box of a turn says, and what below that: the thread and what it does, or only that where its processor has no other thread.
+fn words_of(
+    alloc: Global,
+    names: Option<&Names>,
+    replay: &Replay,
+    scene: &Scene,
+) -> Result<(String, String), OutOfMemory> {
+    let content = content_of(replay, scene);
+    let nothing = String::new(alloc);
+    match &scene.poll {
+        Some(poll) if is_alone(replay, scene.cpu) => { Ok((deed_of(alloc, names, poll)?, nothing)) }
+        Some(poll) => {
+            let label = label_of(alloc, names, scene.cpu, content)?;
+            Ok((label, deed_of(alloc, names, poll)?))
+        }
+        None => Ok((label_of(alloc, names, scene.cpu, content)?, nothing)),
+    }
+}
+
 // Notes the box of a turn, which has been made, with its line.
 fn note_box(
     alloc: Global,
@@ -174,10 +257,11 @@ fn note_box(
         sketch.tag(scene.number, cpu, Tag::Fault(fault, ends))?;
     }
     let content = content_of(replay, scene);
-    let label = label_of(alloc, names, scene.cpu, content)?;
+    let (label, deed) = words_of(alloc, names, replay, scene)?;
+    let below = below_of(1, deed.as_str());
     let need = Need {
         round: scene.round,
-        width: box_width(content, label.as_str(), Below::Nothing, crossed),
+        width: box_width(content, label.as_str(), below, crossed),
         is_idle: is_idle(replay, scene),
     };
     let turn = TurnBox {
@@ -185,6 +269,7 @@ fn note_box(
         cpu,
         content,
         label,
+        deed,
         crossed,
         line,
     };
@@ -257,18 +342,19 @@ fn draw_choice(out: &mut Page, y: usize, turns: usize, shown: Span) {
 
 // Appends a picture.
 fn draw_picture(
+    alloc: Global,
     out: &mut Page,
     names: Option<&Names>,
     run: &Reel,
     layout: &Layout,
     sketch: &Sketch,
     labels: &Labels,
-) {
-    let cpus = round_length(run.script.cpus);
+) -> Result<(), OutOfMemory> {
     for band in 0..layout.columns.bands() {
-        draw_band(out, names, layout, band, cpus, run.order.is_some());
+        draw_band(alloc, out, names, run, layout, band)?;
     }
     draw_sketch(out, names, layout, sketch, &labels.list);
+    Ok(())
 }
 
 // The picture of a run that is made again.
@@ -291,7 +377,7 @@ fn picture(
     let (legend, end) = legend_of(alloc, names, &sketch, &labels.list, top, width);
     let mut out = Page::new(alloc);
     draw_head(&mut out, width, end.saturating_add(20));
-    draw_picture(&mut out, names, run, &layout, &sketch, &labels);
+    draw_picture(alloc, &mut out, names, run, &layout, &sketch, &labels)?;
     if shown.last >= run.turns.len().saturating_sub(1) {
         show_verdict(alloc, &mut out, names, run, replay, layout.height)?;
     }

@@ -1,11 +1,51 @@
 //! The shapes of a picture, and how long its words are.
+use lwkt_base::Mode;
 use lwkt_refusals::Page;
 
 /// The class of a text in bold.
 pub(crate) const BOLD: &str = " class=\"bold\"";
 
-/// The class of a text on a full bar.
-pub(crate) const VALUE: &str = " class=\"value\"";
+/// The class of a token's bar, by its colour: eight that are told apart also by those who see few colours.
+pub(crate) fn colour_class(tok: usize) -> &'static str {
+    match tok % 8 {
+        0 => "bar t0",
+        1 => "bar t1",
+        2 => "bar t2",
+        3 => "bar t3",
+        4 => "bar t4",
+        5 => "bar t5",
+        6 => "bar t6",
+        _ => "bar t7",
+    }
+}
+
+/// The class of a text on a token's bar: white on a dark colour, black on a light one, and with a white edge on what is hatched.
+pub(crate) fn value_class(tok: usize, mode: Mode) -> &'static str {
+    match mode {
+        Mode::Shared => "",
+        Mode::Exclusive => match tok % 8 {
+            0 | 7 => " class=\"light\"",
+            _ => " class=\"dark\"",
+        },
+    }
+}
+
+/// Appends a bar of a token, hatched if it is shared.
+pub(crate) fn show_bar(
+    out: &mut Page,
+    at: Point,
+    width: usize,
+    height: usize,
+    tok: usize,
+    mode: Mode,
+) {
+    show_rect(out, at, width, height, colour_class(tok));
+    out.add("/>");
+    if mode == Mode::Shared {
+        show_rect(out, at, width, height, "shared");
+        out.add("/>");
+    }
+}
 
 /// How wide so many letters are, in pixels.
 pub(crate) fn text_width(letters: usize) -> usize {

@@ -22,8 +22,10 @@ pub(crate) struct TurnBox {
     pub cpu: usize,
     /// What stands in it.
     pub content: Content,
-    /// What it says, but for a plus.
+    /// What it says first, but for a plus.
     pub label: String,
+    /// What the thread does, where that is said below.
+    pub deed: String,
     /// Whether a thread ended faulted in it.
     pub crossed: bool,
     /// The turn's line.
@@ -44,10 +46,10 @@ pub(crate) struct Bar {
     value: Option<usize>,
 }
 
-/// A value that was stored in a cell.
+/// A value that a cell was read or stored with.
 #[derive(Clone, Copy)]
 pub(crate) struct Stored {
-    /// The token, and the turn in which it was stored.
+    /// The token, and the turn in which that was.
     pub spot: Spot,
     /// The token.
     pub tok: TokId,
@@ -55,7 +57,11 @@ pub(crate) struct Stored {
     pub cell: u8,
     /// The value.
     pub value: u64,
-    /// Whether further cells were stored in the same turn.
+    /// Whether it was read, and not stored.
+    pub is_read: bool,
+    /// How the token was held.
+    pub mode: Mode,
+    /// Whether further cells were read or stored in the same turn.
     pub more: bool,
     /// The turn from which on the next value stands in the same row, or the token isn't held.
     pub until: usize,
@@ -89,7 +95,7 @@ pub(crate) struct Sketch {
     pub needs: Vec<Need>,
     /// The tokens that were held.
     pub bars: Vec<Bar>,
-    /// The values that were stored.
+    /// The values that were read or stored.
     pub values: Vec<Stored>,
     /// The exclusive requests that marked a token.
     pub marks: Vec<Spot>,
@@ -100,6 +106,44 @@ pub(crate) struct Sketch {
     // The tokens that are held now, and the messages that are on their way.
     held: Vec<Option<Bar>>,
     away: [Option<Way>; MESSAGE_LIMIT],
+}
+
+// A cell that is read or stored, and its value then.
+#[derive(Clone, Copy)]
+struct Seen {
+    tok: TokId,
+    cell: u8,
+    value: u64,
+    is_read: bool,
+}
+
+// What an event reads or stores.
+fn seen_by(event: &Event) -> Option<Seen> {
+    match *event {
+        Event::Read {
+            tok,
+            cell,
+            value,
+            ..
+        } => Some(Seen {
+            tok,
+            cell,
+            value,
+            is_read: true,
+        }),
+        Event::Write {
+            tok,
+            cell,
+            value,
+            ..
+        } => Some(Seen {
+            tok,
+            cell,
+            value,
+            is_read: false,
+        }),
+        _ => None,
+    }
 }
 
 // A table without a bar.
@@ -221,9 +265,11 @@ impl Sketch {
         self.end_bar(bar, spot.turn)
     }
 
-    // Notes that further cells are stored in the turn of the last value under a bar; says whether there is one.
-    fn is_further(&mut self, bar: Bar, turn: usize) -> bool {
+    // Notes that further cells are read or stored in the turn of the last value under a bar; says whether there is one, or the last
+    // value stands there already.
+    fn is_further(&mut self, bar: Bar, seen: Seen, turn: usize) -> bool {
         match self.value_of(bar) {
+            Some(value) if value.cell == seen.cell && value.value == seen.value => true,
             Some(value) if value.spot.turn == turn => {
                 value.more = true;
                 true
@@ -232,12 +278,12 @@ impl Sketch {
         }
     }
 
-    // Adds a value that a processor stored, if it is shown.
-    fn store(&mut self, spot: Spot, tok: TokId, cell: u8, value: u64) -> Result<(), OutOfMemory> {
+    // Adds a value that a processor read or stored, if it is shown.
+    fn see(&mut self, spot: Spot, seen: Seen) -> Result<(), OutOfMemory> {
         let Some(bar) = self.bar(spot.cpu, spot.tok) else {
             return Ok(());
         };
-        if spot.turn < self.span.first || self.is_further(bar, spot.turn) {
+        if spot.turn < self.span.first || self.is_further(bar, seen, spot.turn) {
             return Ok(());
         }
         self.end_value(bar, spot.turn);
@@ -248,9 +294,11 @@ impl Sketch {
         self.set_bar(spot.cpu, spot.tok, Some(bar));
         let stored = Stored {
             spot,
-            tok,
-            cell,
-            value,
+            tok: seen.tok,
+            cell: seen.cell,
+            value: seen.value,
+            is_read: seen.is_read,
+            mode: bar.mode,
             more: false,
             until: spot.turn.saturating_add(1),
         };
@@ -334,15 +382,12 @@ impl Sketch {
             Event::GiveOne { .. } | Event::GiveClean { .. } | Event::GiveWritten { .. } => {
                 return self.give(spot);
             }
-            Event::Write {
-                tok,
-                cell,
-                value,
-                ..
-            } => return self.store(spot, tok, cell, value),
             _ => {}
         }
-        Ok(())
+        match seen_by(event) {
+            Some(seen) => self.see(spot, seen),
+            None => Ok(()),
+        }
     }
 
     /// Notes an event of a turn, which has been made.
