@@ -570,7 +570,7 @@ async function tryOpening() {
     const tab = await browser.open(url, { width, height });
     await tab.until(`run && ${settled} && document.querySelector('#drawing').shadowRoot?.querySelector('.chosen')`);
     same(await value(tab, "script"), read(examples, "litmus/01_one_at_a_time.lwkt"), "the page opens with a lesson");
-    const [top, bottom, size] = await tab.ask(`(() => { const box = document.getElementById('drawing').getBoundingClientRect(), svg = document.getElementById('drawing').shadowRoot.querySelector('svg'); return [box.top, box.bottom, 10 * svg.getBoundingClientRect().width / svg.viewBox.baseVal.width]; })()`);
+    const [top, bottom, size] = await tab.ask(`(() => { const box = document.getElementById('drawing').getBoundingClientRect(), svg = document.getElementById('drawing').shadowRoot.querySelector('svg'); return [box.top, box.bottom, 12 * svg.getBoundingClientRect().width / svg.viewBox.baseVal.width]; })()`);
     check(top > 0 && bottom < height && size >= 12, `its picture is in view at ${width} pixels, from ${top} to ${bottom}, with letters of ${size}`);
     await tab.close();
   }

@@ -28,7 +28,7 @@ with_turns app = with_rule (with_rule (with_rule app (valued (codes "order"))) (
 
 -- those that choose a view
 abbrev pub with_views : App → App
-with_views app = with_rule (with_rule (with_rule app (flag (codes "svg"))) (flag (codes "trace"))) (flag (codes "chains"))
+with_views app = with_rule (with_rule (with_rule (with_rule app (flag (codes "svg"))) (flag (codes "trace"))) (flag (codes "chains"))) (valued (codes "format"))
 
 abbrev pub show : App
 show = with_rule (with_rule (with_views (with_turns (with_rule (new_app (codes "show")) (flag (codes "threads"))))) (flag (codes "numbers"))) file

@@ -41,12 +41,26 @@ rendering_of false true false = Some view.Picture
 rendering_of false false true = Some view.Chains
 rendering_of _ _ _ = None
 
+-- the view that `--format` names: a picture, a page that plays the run, or a timeline
+abbrev pub format_named : Text → Option Rendering
+format_named format =
+    if bytes_eq format (codes "svg") then Some view.Picture
+    else (if bytes_eq format (codes "html") then Some view.Player
+    else (if bytes_eq format (codes "perfetto") then Some view.Timeline else None))
+
+-- the view that these options ask for; none if `--format` is named beside another one
+abbrev pub view_of : Bool → Bool → Bool → Option Text → Option Rendering
+view_of trace svg chains None = rendering_of trace svg chains
+view_of trace svg chains (Some format) = if trace || (svg || chains) then None else format_named format
+
 -- whether a view is of turns that are chosen, and not of the whole run
 abbrev pub has_range : Rendering → Bool
 has_range view.Lines = true
 has_range view.Trace = false
 has_range view.Picture = true
 has_range view.Chains = false
+has_range view.Player = true
+has_range view.Timeline = true
 
 abbrev pub is_whole : Range → Bool
 is_whole range = range.first == 0 && range.last == no_end
@@ -70,16 +84,16 @@ fits_order order rounds = option_map_or (λ text. list_all is_part text && not (
 abbrev pub fits : Bool → Rendering → Option Text → Option Text → Option Text → Bool
 fits on_threads rendering order turns rounds = if on_threads then fits_threads rendering order turns rounds else fits_order order rounds
 
-abbrev pub shown : Bool → Option Text → Option Text → Option Text → Bool → Bool → Bool → Bool → Option Task
-shown on_threads order turns rounds svg trace chains in_numbers =
+abbrev pub shown : Bool → Option Text → Option Text → Option Text → Bool → Bool → Bool → Option Text → Bool → Option Task
+shown on_threads order turns rounds svg trace chains format in_numbers =
     option_and_then (λ rendering. option_and_then (λ range. option_and_then (λ options.
     if fits on_threads rendering order turns rounds then Some (Show on_threads in_numbers options) else None)
-    (options_of rendering range)) (range_named turns rounds)) (rendering_of trace svg chains)
+    (options_of rendering range)) (range_named turns rounds)) (view_of trace svg chains format)
 
 abbrev pub show_in : List Row → Option Task
 show_in rows =
     shown (is_on (codes "threads") rows) (first_of (codes "order") rows) (first_of (codes "turns") rows) (first_of (codes "rounds") rows)
-    (is_on (codes "svg") rows) (is_on (codes "trace") rows) (is_on (codes "chains") rows) (is_on (codes "numbers") rows)
+    (is_on (codes "svg") rows) (is_on (codes "trace") rows) (is_on (codes "chains") rows) (first_of (codes "format") rows) (is_on (codes "numbers") rows)
 
 -- ---- text
 

@@ -178,11 +178,18 @@ fn with_views<'a>(alloc: Global, command: Built<'a>) -> Built<'a>
         "trace",
         "Write the run as a trace, for lwkt check",
     );
-    with_flag(
+    let command = with_flag(
         alloc,
         command,
         "chains",
         "List the written sections of each token",
+    );
+    with_value(
+        alloc,
+        command,
+        "format",
+        "FORMAT",
+        "Write a picture svg, a page html or a timeline perfetto",
     )
 }
 

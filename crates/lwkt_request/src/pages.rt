@@ -85,11 +85,13 @@ each log beside its steps, and the report. A text is shown in its names, unless
 --numbers is given.
 
 In place of this, --svg draws the turns, --trace writes the run as a trace, and
---chains lists the written sections of each token. Name at most one of the three.
+--chains lists the written sections of each token. --format html writes a page
+that plays the run, --format perfetto a timeline for Perfetto or Chrome, and
+--format svg is --svg. Name at most one of these.
 
-Lines and pictures can be cut down to some turns with --turns A..B or to some
-rounds with --rounds A..B; A or B may be left out. Lines show at most the first
-10000 of these turns, a picture the first 2000.
+All but --trace and --chains can be cut down to some turns with --turns A..B or
+to some rounds with --rounds A..B; A or B may be left out. Lines show at most
+the first 10000 of these turns, the others the first 2000.
 
 An ORDER is a digit for the processor of each turn. Blanks, commas and dashes
 may stand between digits: 0,1,1 is 011, and - is the order without a turn. It

@@ -2,7 +2,7 @@
 ghost use Rattle.std.specs.Prelude.{◌≡◌, is_ok};
 ghost use Rattle.std.specs.Option.{option_copied};
 ghost use Rattle.std.specs.Result.{result_ok};
-ghost use Rattle.lwkt_request.specs.Tasks.{explore_in, explored, fits, fits_order, fits_threads, form_of, has_range, is_chains, is_whole, layout_of, options_of, rows_in, show_in, shown, task_in, text_in, rendering_of, states_by, wording_of};
+ghost use Rattle.lwkt_request.specs.Tasks.{explore_in, explored, fits, fits_order, fits_threads, form_of, format_named, has_range, is_chains, is_whole, layout_of, options_of, rows_in, show_in, shown, task_in, text_in, rendering_of, states_by, view_of, wording_of};
 
 use crate::matched::{is_on, value_in};
 use crate::ranges::{
@@ -24,6 +24,7 @@ struct ShowWords<'a> {
     svg: bool,
     trace: bool,
     chains: bool,
+    format: Option<&'a str>,
     in_numbers: bool,
 }
 
@@ -42,11 +43,50 @@ fn rendering_of<'a>(trace: bool, svg: bool, chains: bool) -> Result<Rendering, W
     }
 }
 
+// The view that `--format` names.
+fn format_named<'a>(format: &'a str) -> Result<Rendering, Wrong<'a>>
+    ensures { result_ok result ≡ format_named format.entry.now }
+{
+    match format {
+        "svg" => Ok(Rendering::Picture),
+        "html" => Ok(Rendering::Player),
+        "perfetto" => Ok(Rendering::Timeline),
+        _ => Err(Wrong::Format(format)),
+    }
+}
+
+// The view that three flags ask for, or a format in place of them.
+fn view_of<'a>(
+    trace: bool,
+    svg: bool,
+    chains: bool,
+    format: Option<&'a str>,
+) -> Result<Rendering, Wrong<'a>>
+    ensures { result_ok result ≡ view_of trace svg chains (option_copied format.entry) }
+{
+    let Some(format) = format else {
+        return rendering_of(trace, svg, chains);
+    };
+    if trace {
+        return Err(Wrong::Apart("--format", "--trace"));
+    }
+    if svg {
+        return Err(Wrong::Apart("--format", "--svg"));
+    }
+    if chains {
+        return Err(Wrong::Apart("--format", "--chains"));
+    }
+    format_named(format)
+}
+
 // Whether a view is of turns that are chosen, and not of the whole run.
 fn has_range(rendering: Rendering) -> bool
     ensures { result ≡ has_range rendering }
 {
-    matches!(rendering, Rendering::Lines | Rendering::Picture)
+    matches!(
+        rendering,
+        Rendering::Lines | Rendering::Picture | Rendering::Player | Rendering::Timeline
+    )
 }
 
 fn is_chains(rendering: Rendering) -> bool
@@ -141,9 +181,9 @@ fn fits<'a>(words: ShowWords<'a>, rendering: Rendering) -> Result<(), Wrong<'a>>
 }
 
 fn shown<'a>(words: ShowWords<'a>) -> Result<Task, Wrong<'a>>
-    ensures { result_ok result ≡ shown words.entry.on_threads (option_copied words.entry.order) (option_copied words.entry.turns) (option_copied words.entry.rounds) words.entry.svg words.entry.trace words.entry.chains words.entry.in_numbers }
+    ensures { result_ok result ≡ shown words.entry.on_threads (option_copied words.entry.order) (option_copied words.entry.turns) (option_copied words.entry.rounds) words.entry.svg words.entry.trace words.entry.chains (option_copied words.entry.format) words.entry.in_numbers }
 {
-    let rendering = rendering_of(words.trace, words.svg, words.chains)?;
+    let rendering = view_of(words.trace, words.svg, words.chains, words.format)?;
     let range = range_named(words.turns, words.rounds)?;
     let options = options_of(rendering, range)?;
     fits(words, rendering)?;
@@ -165,6 +205,7 @@ fn show_in<'a>(matches: &ArgMatches<'a>) -> Result<Task, Wrong<'a>>
         svg: is_on(matches, "svg"),
         trace: is_on(matches, "trace"),
         chains: is_on(matches, "chains"),
+        format: value_in(matches, "format"),
         in_numbers: is_on(matches, "numbers"),
     })
 }

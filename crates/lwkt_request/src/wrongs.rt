@@ -16,6 +16,8 @@ pub(crate) enum Wrong<'a> {
     Falls(&'static str, &'a str),
     /// The value is no order.
     Order(&'a str),
+    /// The value is no format.
+    Format(&'a str),
     /// Two options that don't go together.
     Apart(&'static str, &'static str),
     /// An option that wants something else beside it.
@@ -80,6 +82,13 @@ fn sentence_of(alloc: Global, wrong: Wrong<'_>) -> Result<String, OutOfMemory> {
                 " 0,1,0",
             )
         }
+        Wrong::Format(value) => joined(
+            alloc,
+            "--format ",
+            value,
+            ": give svg, html or perfetto",
+            "",
+        ),
         Wrong::Apart(one, other) => joined(alloc, one, " and ", other, " don't go together"),
         Wrong::Beside(one, other) => joined(alloc, one, " wants ", other, " beside it"),
         Wrong::NoCommand => from_str(alloc, "a command is wanted"),

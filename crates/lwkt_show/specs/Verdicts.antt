@@ -18,7 +18,7 @@ lawful_text = codes "; lawful: the implementation did what the model allows"
 
 -- what is said first of a run that ended so, and what last
 abbrev pub first_text : Manner → List ℕ
-first_text Ended = codes "every thread has ended"
+first_text Ended = codes "every thread is done"
 first_text Stuck = codes "stuck: "
 first_text TurnsOut = codes "the turns are used up: "
 first_text Unlawful = codes "unlawful: this is no run of the model"

@@ -139,29 +139,46 @@ fn widths_of(needs: &[Need], group: Group) -> (usize, usize) {
     (widest, all)
 }
 
-// Where the next column stands.
+/// Where the next column stands.
 #[derive(Clone, Copy)]
-struct Next {
-    left: usize,
-    band: usize,
-    x: usize,
+pub(crate) struct Next {
+    /// Where each band begins, in pixels from the left.
+    pub left: usize,
+    /// The band, from 0.
+    pub band: usize,
+    /// How far from the left.
+    pub x: usize,
 }
 
 impl Next {
+    ghost use Rattle.std.specs.Prelude.{◌≡◌};
+    ghost use Rattle.lwkt_show.specs.Columns.{has_room, with_room, behind};
+
+    // Whether so much has room in this band. In each there is room for one column.
+    fn has_room(self, width: usize) -> bool
+        ensures { result ≡ has_room self width }
+    {
+        self.x <= self.left || self.x.saturating_add(width) <= RIGHTMOST
+    }
+
     // The same, in the next band if so much has no room in this one.
-    fn with_room(self, width: usize) -> Next {
-        if self.x > self.left && self.x.saturating_add(width) > RIGHTMOST {
-            return Next {
-                left: self.left,
-                band: self.band.saturating_add(1),
-                x: self.left,
-            };
+    fn with_room(self, width: usize) -> Next
+        ensures { result ≡ with_room self width }
+    {
+        if self.has_room(width) {
+            return self;
         }
-        self
+        Next {
+            left: self.left,
+            band: self.band.saturating_add(1),
+            x: self.left,
+        }
     }
 
     // Where the one behind a column stands.
-    fn behind(self, column: Column) -> Next {
+    fn behind(self, column: Column) -> Next
+        ensures { result ≡ behind self column }
+    {
         Next {
             left: self.left,
             band: column.band,
@@ -170,7 +187,11 @@ impl Next {
     }
 
     // The column that is so wide and stands here, or in the next band if it has no room.
-    fn column(self, width: usize, group: Group) -> Column {
+    fn column(self, width: usize, group: Group) -> Column
+        ensures band { result.band ≡ (with_room self width).band }
+        ensures x { result.x ≡ (with_room self width).x }
+        ensures width { result.width ≡ width }
+    {
         let next = self.with_room(width);
         Column {
             band: next.band,

@@ -3,6 +3,7 @@ use crate::boxes::{Labelled, below_of, show_box};
 use crate::columns::Column;
 use crate::labels::{Label, Tag};
 use crate::layouts::{BOX, Layout, ROW, Spot};
+use crate::marked::show_marked;
 use crate::shapes::{
     BOLD, Point, digits, draw, letters_in, show_bar, show_flag, show_line, show_ring, show_text_at,
     value_class,
@@ -266,14 +267,15 @@ fn show_rounds(out: &mut Page, column: Column) {
 // Appends the box of a turn in its column.
 fn draw_box(out: &mut Page, layout: &Layout, column: Column, turn: &TurnBox) {
     let at = layout.turn(turn.turn, turn.cpu);
-    out.add("<g");
+    draw(out, "<g data-turn=\"@\"", &[turn.turn]);
     if column.rounds > 1 {
         let last = layout.columns.span.first.saturating_add(column.first);
         let last = last.saturating_add(column.turns.saturating_sub(1));
-        draw(out, " data-until=\"@\"", &[last]);
+        let every = column.turns / column.rounds;
+        draw(out, " data-until=\"@\" data-every=\"@\"", &[last, every]);
     }
     out.add("><title>");
-    out.add_line(&turn.line);
+    show_marked(out, turn.line.as_str().trim_end());
     if column.rounds > 1 {
         show_rounds(out, column);
     }

@@ -1,5 +1,5 @@
 //! A picture of a run.
-ghost use Rattle.std.specs.Prelude.{IfErr};
+ghost use Rattle.std.specs.Prelude.{◌≡◌, [], None, IfErr, IsTrue};
 ghost use Rattle.lwkt_show.specs.Shown.{MayBeRefused};
 
 use crate::boxes::{below_of, content_of, deed_of, is_alone, label_of, width_for as box_width};
@@ -12,7 +12,8 @@ use crate::options::Options;
 use crate::reels::{Reel, Scene, round_length, scene_of};
 use crate::replays::Replay;
 use crate::shapes::{
-    BOLD, Point, digits, draw, show_cut, show_label, show_rule, show_text_at, show_word, text_width,
+    BOLD, Point, digits, draw, show_cut, show_label, show_rect, show_rule, show_text_at, show_word,
+    text_width,
 };
 use crate::sketches::{Sketch, TurnBox};
 use crate::turns::{pass_turn, show_turn};
@@ -32,7 +33,7 @@ const VERDICT: usize = 16;
 
 // How the parts are drawn, and what hatches and arrow heads are.
 const STYLE: &str =
-    "<style>text{font:12px monospace;paint-order:stroke;stroke:#fff;stroke-width:2px}.round{stroke:#ccc}.under{stroke:#fff;stroke-width:5}.bar{stroke:#000}.t0{fill:#0072b2}.t1{fill:#e69f00}.t2{fill:#009e73}.t3{fill:#d55e00}.t4{fill:#56b4e9}.t5{fill:#cc79a7}.t6{fill:#f0e442}.t7{fill:#000}.shared{fill:url(#lines)}.turn{fill:#fff;stroke:#000}.idle{fill:#fff;stroke:#666;stroke-dasharray:2 2}.way{stroke:#000;fill:none}.flag{stroke:#000;stroke-width:1.5}.cross{stroke:#000;stroke-width:2;fill:none}.bold{font-weight:bold}.bad{fill:#b00000}.light{fill:#fff;stroke:none}.dark{stroke:none}</style>\n<defs><pattern id=\"lines\" width=\"6\" height=\"6\" patternUnits=\"userSpaceOnUse\" patternTransform=\"rotate(45)\"><path d=\"M2 0v6\" stroke=\"#fff\" stroke-width=\"3\"/></pattern><marker id=\"head\" viewBox=\"0 0 8 8\" refX=\"8\" refY=\"4\" markerWidth=\"7\" markerHeight=\"7\" orient=\"auto\"><path d=\"M0 0L8 4L0 8z\"/></marker></defs>\n";
+    "<style>text{font:12px monospace;paint-order:stroke;stroke:#fff;stroke-width:2px}.band{fill:none}.round{stroke:#ccc}.under{stroke:#fff;stroke-width:5}.bar{stroke:#000}.t0{fill:#0072b2}.t1{fill:#e69f00}.t2{fill:#009e73}.t3{fill:#d55e00}.t4{fill:#56b4e9}.t5{fill:#cc79a7}.t6{fill:#f0e442}.t7{fill:#000}.shared{fill:url(#lines)}.turn{fill:#fff;stroke:#000}.idle{fill:#fff;stroke:#666;stroke-dasharray:2 2}.way{stroke:#000;fill:none}.flag{stroke:#000;stroke-width:1.5}.cross{stroke:#000;stroke-width:2;fill:none}.bold{font-weight:bold}.bad{fill:#b00000}.light{fill:#fff;stroke:none}.dark{stroke:none}</style>\n<defs><pattern id=\"lines\" width=\"6\" height=\"6\" patternUnits=\"userSpaceOnUse\" patternTransform=\"rotate(45)\"><path d=\"M2 0v6\" stroke=\"#fff\" stroke-width=\"3\"/></pattern><marker id=\"head\" viewBox=\"0 0 8 8\" refX=\"8\" refY=\"4\" markerUnits=\"userSpaceOnUse\" markerWidth=\"9\" markerHeight=\"9\" orient=\"auto\"><path d=\"M0 0L8 4L0 8z\"/></marker></defs>\n";
 
 // Appends the beginning of a picture: its size, and how its parts are drawn.
 fn draw_head(out: &mut Page, width: usize, height: usize) {
@@ -187,6 +188,12 @@ fn draw_band(
     layout: &Layout,
     band: usize,
 ) -> Result<(), OutOfMemory> {
+    let x = layout.columns.x(layout.columns.begin(band));
+    let y = layout.head(band).saturating_add(4);
+    let width = layout.columns.edge(band).saturating_sub(x);
+    let height = layout.foot(band).saturating_sub(y);
+    show_rect(out, Point { x, y }, width, height, "band");
+    out.add("/>");
     draw_rounds(out, layout, band, run.order.is_some());
     for cpu in 0..round_length(run.script.cpus) {
         draw_names(alloc, out, names, run, layout, band, cpu)?;
@@ -218,7 +225,9 @@ fn fault_of(replay: &Replay, scene: &Scene) -> Option<(Fault, bool)> {
 }
 
 // Whether nothing changes in a turn: no thread runs or ends, and nothing happens to a token or a message.
-fn is_idle(replay: &Replay, scene: &Scene) -> bool {
+fn is_idle(replay: &Replay, scene: &Scene) -> bool
+    ensures { IsTrue result → (scene.now.poll ≡ None) × (scene.now.part.now ≡ []) }
+{
     scene.poll.is_none() && scene.part.is_empty() && ended_by(replay, scene).is_none()
 }
 
@@ -271,7 +280,7 @@ fn note_box(
         label,
         deed,
         crossed,
-        line,
+        line: line.whole()?,
     };
     sketch.add_box(turn, need)
 }
@@ -357,27 +366,50 @@ fn draw_picture(
     Ok(())
 }
 
-// The picture of a run that is made again.
-fn picture(
+// Refused where memory was refused for what a thread computed on its way.
+fn ways_whole(replay: &Replay) -> Result<(), OutOfMemory> {
+    for story in &replay.stories {
+        if let Some(refused) = story.lost() {
+            return Err(refused);
+        }
+    }
+    Ok(())
+}
+
+/// What the picture of a run has that is made again up to the last turn that is shown.
+pub(crate) fn sketch_of(
     alloc: Global,
     names: Option<&Names>,
     run: &Reel,
     replay: &mut Replay,
     chosen: Options,
-) -> Result<String, OutOfMemory> {
-    let cpus = round_length(run.script.cpus);
+) -> Result<Sketch, OutOfMemory> {
     let shown = shown_of(run, chosen);
     let mut sketch = Sketch::new(alloc, shown)?;
     note_turns(alloc, names, run, &mut sketch, replay, shown)?;
+    ways_whole(replay)?;
+    Ok(sketch)
+}
+
+/// The picture that has this, of a run that was made again up to the last turn that is shown.
+pub(crate) fn drawn(
+    alloc: Global,
+    names: Option<&Names>,
+    run: &Reel,
+    replay: &Replay,
+    sketch: &Sketch,
+) -> Result<String, OutOfMemory> {
+    let shown = sketch.span;
     let columns = Columns::new(alloc, shown, left_for(names), &sketch.needs)?;
     let labels = Labels::new(alloc, names, &columns, &sketch.tags)?;
     let width = width_for(&columns);
+    let cpus = round_length(run.script.cpus);
     let layout = Layout::new(alloc, cpus, columns, run.trace, &labels.lines)?;
     let top = layout.height.saturating_add(VERDICT);
-    let (legend, end) = legend_of(alloc, names, &sketch, &labels.list, top, width);
+    let (legend, end) = legend_of(alloc, names, sketch, &labels.list, top, width);
     let mut out = Page::new(alloc);
     draw_head(&mut out, width, end.saturating_add(20));
-    draw_picture(alloc, &mut out, names, run, &layout, &sketch, &labels)?;
+    draw_picture(alloc, &mut out, names, run, &layout, sketch, &labels)?;
     if shown.last >= run.turns.len().saturating_sub(1) {
         show_verdict(alloc, &mut out, names, run, replay, layout.height)?;
     }
@@ -399,6 +431,7 @@ pub(crate) fn picture_of(
 ) -> Result<String, Fault>
     ensures refused { IfErr result (MayBeRefused run.now.script.now) }
 {
-    let mut replay = Replay::open(alloc, run.script, &run.closing.threads, false)?;
-    Ok(picture(alloc, names, run, &mut replay, chosen)?)
+    let mut replay = Replay::open(alloc, run.script, &run.closing.threads, true)?;
+    let sketch = sketch_of(alloc, names, run, &mut replay, chosen)?;
+    Ok(drawn(alloc, names, run, &replay, &sketch)?)
 }

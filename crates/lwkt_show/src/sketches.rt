@@ -9,7 +9,6 @@ use lwkt_base::limits::{CPU_LIMIT, MESSAGE_LIMIT, TOKEN_LIMIT};
 use lwkt_base::memory::push;
 use lwkt_base::{Mode, MsgId, OutOfMemory, TokId};
 use lwkt_core::Event;
-use lwkt_refusals::Page;
 use lwkt_trace::words::{Subject, subject_of};
 use std::alloc::Global;
 
@@ -29,7 +28,7 @@ pub(crate) struct TurnBox {
     /// Whether a thread ended faulted in it.
     pub crossed: bool,
     /// The turn's line.
-    pub line: Page,
+    pub line: String,
 }
 
 /// A token that a processor held, from turn to turn.

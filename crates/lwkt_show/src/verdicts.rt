@@ -22,7 +22,7 @@ const THREAD_LIMIT: usize = 4;
 /// How a run ended.
 #[derive(Clone, Copy, PartialEq, Eq)]
 pub enum Manner {
-    /// Every thread has ended.
+    /// Every thread has ended, or is a service.
     Ended,
     /// Some have not, and none of them can go on.
     Stuck,
@@ -56,7 +56,7 @@ fn manner_words(manner: Manner) -> (&'static str, &'static str)
 {
     match manner {
         Manner::Ended => (
-            "every thread has ended",
+            "every thread is done",
             "; lawful: the implementation did what the model allows",
         ),
         Manner::Stuck => (
@@ -194,7 +194,7 @@ fn class_of(manner: Manner) -> &'static str {
     }
 }
 
-/// Appends how a run ended whose last turn has been made again, in names if some are given: whether every thread has ended, or who waits
+/// Appends how a run ended whose last turn has been made again, in names if some are given: whether every thread is done, or who waits
 /// for what, in a circle if there is one; and that it is lawful.
 pub(crate) fn show_verdict(
     alloc: Global,
