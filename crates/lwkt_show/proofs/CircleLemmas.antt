@@ -1,5 +1,5 @@
 -- Waits that lead from one thread to the next.
-use Rattle.std.proofs.Common.{◌≡◌, ◌∙◌, ◌+◌, ◌-◌, ◌<◌, ◌++◌, ℕ, suc, List, [], ap, false, arith, if◌then◌else◌}
+use Rattle.std.proofs.Common.{◌≡◌, ◌∙◌, ◌+◌, ◌-◌, ◌<◌, ◌++◌, ℕ, suc, List, [], append_assoc, append-nil, ap, sym, false, arith, if◌then◌else◌}
 use Rattle.std.specs.Prelude.{◌||◌, Bool, Option, Some, None}
 use Rattle.std.specs.Option.{option_map_or}
 use Rattle.lwkt_base.specs.declared.names.ThreadId.{ThreadId}
@@ -32,3 +32,13 @@ others_on names next first now to k n below is =
     let m = n - (k + 1) in
     let told : Option ThreadId → List ℕ = λ found. option_map_or (λ (one : ThreadId). arrow_text names one ++ (if is_thread one first then [] else others_text names next first m one)) found [] in
     ap (λ (left : ℕ). others_text names next first left now) (one_less k n below) ∙ ap told is
+
+-- a piece is written, and the rest stands as before
+pub written_on : (out new w rest all whole : List ℕ) → new ≡ out ++ w → all ≡ w ++ rest → out ++ all ≡ whole → new ++ rest ≡ whole
+written_on out new w rest all whole one is so =
+    let two : (out ++ w) ++ rest ≡ out ++ (w ++ rest) = simp append_assoc in
+    rw one (two ∙ ap (λ (x : List ℕ). out ++ x) (sym is) ∙ so)
+
+-- nothing is left to write
+pub written_all : (out all whole : List ℕ) → all ≡ [] → out ++ all ≡ whole → out ≡ whole
+written_all out all whole is so = sym (append-nil out) ∙ ap (λ (x : List ℕ). out ++ x) (sym is) ∙ so

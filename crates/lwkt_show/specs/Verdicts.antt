@@ -14,7 +14,7 @@ manner_of ends.TurnsOut false = Stuck
 
 -- that a run is lawful judges the implementation, and is said last
 abbrev pub lawful_text : List ℕ
-lawful_text = codes "; lawful: the implementation did what the model allows"
+lawful_text = codes "lawful: the implementation did what the model allows"
 
 -- what is said first of a run that ended so, and what last
 abbrev pub first_text : Manner → List ℕ

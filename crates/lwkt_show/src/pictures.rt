@@ -17,7 +17,7 @@ use crate::shapes::{
 };
 use crate::sketches::{Sketch, TurnBox};
 use crate::turns::{pass_turn, show_turn};
-use crate::verdicts::show_verdict;
+use crate::verdicts::{Told, show_told, told_of};
 use crate::words::{show_thread, show_token_at};
 use lwkt_base::memory::push;
 use lwkt_base::{Answer, Fault, OutOfMemory, ThreadId, ThreadState};
@@ -28,8 +28,11 @@ use std::alloc::Global;
 // The most turns that a picture shows.
 const PICTURE_LIMIT: usize = 2_000;
 
-// How high the line is in which the run's end is told.
-const VERDICT: usize = 16;
+// How high the lines are in which the run's end is told.
+const VERDICT: usize = 36;
+
+// How wide a picture may be.
+const WIDEST: usize = 1_280;
 
 // How the parts are drawn, and what hatches and arrow heads are.
 const STYLE: &str =
@@ -391,6 +394,30 @@ pub(crate) fn sketch_of(
     Ok(sketch)
 }
 
+// What is told of the run's end, if its last turn is shown.
+fn told_in(
+    alloc: Global,
+    names: Option<&Names>,
+    run: &Reel,
+    replay: &Replay,
+    shown: Span,
+) -> Result<Option<Told>, OutOfMemory> {
+    if shown.last < run.turns.len().saturating_sub(1) {
+        return Ok(None);
+    }
+    Ok(Some(told_of(alloc, names, run, replay)?))
+}
+
+// How wide a picture with these columns is, in which this is told of the run's end.
+fn width_with(columns: &Columns, told: &Option<Told>) -> usize {
+    let letters = match told {
+        Some(told) => told.first.len(),
+        None => 0,
+    };
+    let line = text_width(letters).saturating_add(12).min(WIDEST);
+    width_for(columns).max(line)
+}
+
 /// The picture that has this, of a run that was made again up to the last turn that is shown.
 pub(crate) fn drawn(
     alloc: Global,
@@ -402,16 +429,20 @@ pub(crate) fn drawn(
     let shown = sketch.span;
     let columns = Columns::new(alloc, shown, left_for(names), &sketch.needs)?;
     let labels = Labels::new(alloc, names, &columns, &sketch.tags)?;
-    let width = width_for(&columns);
+    let told = told_in(alloc, names, run, replay, shown)?;
+    let width = width_with(&columns, &told);
     let cpus = round_length(run.script.cpus);
     let layout = Layout::new(alloc, cpus, columns, run.trace, &labels.lines)?;
-    let top = layout.height.saturating_add(VERDICT);
+    let top = match &told {
+        Some(_) => layout.height.saturating_add(VERDICT),
+        None => layout.height,
+    };
     let (legend, end) = legend_of(alloc, names, sketch, &labels.list, top, width);
     let mut out = Page::new(alloc);
     draw_head(&mut out, width, end.saturating_add(20));
     draw_picture(alloc, &mut out, names, run, &layout, sketch, &labels)?;
-    if shown.last >= run.turns.len().saturating_sub(1) {
-        show_verdict(alloc, &mut out, names, run, replay, layout.height)?;
+    if let Some(told) = &told {
+        show_told(&mut out, told, layout.height);
     }
     out.add_page(&legend);
     draw_choice(&mut out, end.saturating_add(10), run.turns.len(), shown);

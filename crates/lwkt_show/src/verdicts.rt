@@ -17,7 +17,7 @@ use lwkt_text::Names;
 use std::alloc::Global;
 
 // The most threads of which it is said for what they wait.
-const THREAD_LIMIT: usize = 4;
+const THREAD_LIMIT: usize = 3;
 
 /// How a run ended.
 #[derive(Clone, Copy, PartialEq, Eq)]
@@ -57,15 +57,15 @@ fn manner_words(manner: Manner) -> (&'static str, &'static str)
     match manner {
         Manner::Ended => (
             "every thread is done",
-            "; lawful: the implementation did what the model allows",
+            "lawful: the implementation did what the model allows",
         ),
         Manner::Stuck => (
             "stuck: ",
-            "; lawful: the implementation did what the model allows",
+            "lawful: the implementation did what the model allows",
         ),
         Manner::TurnsOut => (
             "the turns are used up: ",
-            "; lawful: the implementation did what the model allows",
+            "lawful: the implementation did what the model allows",
         ),
         Manner::Unlawful => ("unlawful: this is no run of the model", ""),
     }
@@ -188,34 +188,48 @@ fn show_why(
 // The class of what is said first of a run that ended so.
 fn class_of(manner: Manner) -> &'static str {
     match manner {
-        Manner::Ended => " class=\"bold\"",
-        Manner::TurnsOut => " class=\"bold\"",
+        Manner::Ended | Manner::TurnsOut => " class=\"bold\"",
         Manner::Stuck | Manner::Unlawful => " class=\"bold bad\"",
     }
 }
 
-/// Appends how a run ended whose last turn has been made again, in names if some are given: whether every thread is done, or who waits
-/// for what, in a circle if there is one; and that it is lawful.
-pub(crate) fn show_verdict(
+/// What is told of a run's end.
+#[derive(Drop)]
+pub(crate) struct Told {
+    manner: Manner,
+    /// The first line.
+    pub first: String,
+}
+
+/// What is told of the end of a run whose last turn has been made again, in names if some are given: that every thread is done, or who
+/// waits for what, in a circle if there is one.
+pub(crate) fn told_of(
     alloc: Global,
-    out: &mut Page,
     names: Option<&Names>,
     run: &Reel,
     replay: &Replay,
-    y: usize,
-) -> Result<(), OutOfMemory> {
+) -> Result<Told, OutOfMemory> {
     let manner = manner_of(end_of_closing(run.closing), one_goes_on(replay));
-    let (before, behind) = manner_words(manner);
-    show_text_at(out, Point { x: 4, y }, "");
-    out.add("<tspan");
-    out.add(class_of(manner));
-    out.add(">");
-    out.add(before);
+    let mut out = Page::new(alloc);
+    let (first, _last) = manner_words(manner);
+    out.add(first);
     if matches!(manner, Manner::Stuck | Manner::TurnsOut) {
-        show_why(alloc, out, names, replay)?;
+        show_why(alloc, &mut out, names, replay)?;
     }
-    out.add("</tspan>");
-    out.add(behind);
+    Ok(Told {
+        manner,
+        first: out.whole()?,
+    })
+}
+
+/// Appends what is told of a run's end, on two lines: below it that the run is lawful, if it is.
+pub(crate) fn show_told(out: &mut Page, told: &Told, y: usize) {
+    let (_first, last) = manner_words(told.manner);
+    show_text_at(out, Point { x: 4, y }, class_of(told.manner));
+    out.add(told.first.as_str());
+    out.add("</text>");
+    let below = y.saturating_add(16);
+    show_text_at(out, Point { x: 4, y: below }, "");
+    out.add(last);
     out.add("</text>\n");
-    Ok(())
 }
