@@ -1,5 +1,5 @@
 -- Waits that lead from one thread to the next.
-use Rattle.std.proofs.Common.{◌≡◌, ◌∙◌, ◌+◌, ◌-◌, ◌<◌, ◌++◌, ℕ, suc, List, [], append_assoc, append-nil, ap, sym, false, arith, if◌then◌else◌}
+use Rattle.std.proofs.Common.{◌≡◌, ◌∙◌, ◌+◌, ◌-◌, ◌<◌, ◌++◌, ℕ, suc, List, [], append_assoc, append-nil, ap, sym, true, false, arith, if◌then◌else◌}
 use Rattle.std.specs.Prelude.{◌||◌, Bool, Option, Some, None}
 use Rattle.std.specs.Option.{option_map_or}
 use Rattle.lwkt_base.specs.declared.names.ThreadId.{ThreadId}
@@ -32,6 +32,12 @@ others_on names next first now to k n below is =
     let m = n - (k + 1) in
     let told : Option ThreadId → List ℕ = λ found. option_map_or (λ (one : ThreadId). arrow_text names one ++ (if is_thread one first then [] else others_text names next first m one)) found [] in
     ap (λ (left : ℕ). others_text names next first left now) (one_less k n below) ∙ ap told is
+
+pub others_last : (names : Option Names) (next : ThreadId → Option ThreadId) (first now to : ThreadId) (k n : ℕ) → k < n → next now ≡ Some to → is_thread to first ≡ true
+    → others_text names next first (n - k) now ≡ arrow_text names to
+others_last names next first now to k n below is last =
+    others_on names next first now to k n below is
+    ∙ ap (λ (b : Bool). arrow_text names to ++ (if b then [] else others_text names next first (n - (k + 1)) to)) last ∙ append-nil (arrow_text names to)
 
 -- a piece is written, and the rest stands as before
 pub written_on : (out new w rest all whole : List ℕ) → new ≡ out ++ w → all ≡ w ++ rest → out ++ all ≡ whole → new ++ rest ≡ whole

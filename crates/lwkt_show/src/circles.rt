@@ -70,6 +70,7 @@ fn show_next(out: &mut Page, names: Option<&Names>, id: ThreadId)
 }
 
 // Appends, each behind an arrow, the threads from the one that a thread waits for up to that thread.
+#[tactic(auto, using(crate::proofs::CircleLemmas::others_last))]
 fn show_others(out: &mut Page, names: Option<&Names>, waits: &[Wait], first: ThreadId)
     ensures { GrowsBy out.old out.new (others_text (option_copied names.entry) (next_of waits.now) first (length waits.now) first) }
 {

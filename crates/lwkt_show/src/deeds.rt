@@ -1,28 +1,39 @@
 //! What a thread does in a turn, in so few letters that a box has room for them.
-ghost use Rattle.std.specs.Prelude.{◌≡◌};
+ghost use Rattle.std.specs.Prelude.{◌++◌, codes};
 ghost use Rattle.std.specs.Option.{option_copied};
 ghost use Rattle.lwkt_refusals.specs.Pages.{GrowsBy};
+ghost use Rattle.lwkt_show.specs.Words.{token_said, message_said};
 ghost use Rattle.lwkt_show.specs.Deeds.{object_text, read_text, verb_text, deed_text};
 
 use crate::words::{show_message, show_token};
 use lwkt_base::steps::step_of;
-use lwkt_base::{Answer, Ask, Part};
+use lwkt_base::{Answer, Ask, MsgId, Part, TokId};
 use lwkt_refusals::Page;
 use lwkt_text::Names;
+
+// Appends a token behind a blank.
+fn show_token_object(out: &mut Page, names: Option<&Names>, tok: TokId)
+    ensures { GrowsBy out.old out.new (codes " " ++ token_said (option_copied names.entry) tok.0) }
+{
+    out.add(" ");
+    show_token(out, names, tok)
+}
+
+// Appends a message behind a blank.
+fn show_message_object(out: &mut Page, names: Option<&Names>, msg: MsgId)
+    ensures { GrowsBy out.old out.new (codes " " ++ message_said (option_copied names.entry) msg.0) }
+{
+    out.add(" ");
+    show_message(out, names, msg)
+}
 
 // Appends what a step is about, by its first part: a token or a message.
 fn show_object(out: &mut Page, names: Option<&Names>, part: Option<&Part>)
     ensures { GrowsBy out.old out.new (object_text (option_copied names.entry) (option_copied part.entry)) }
 {
     match part {
-        Some(Part::Token(tok)) => {
-            out.add(" ");
-            show_token(out, names, *tok)
-        }
-        Some(Part::Message(msg)) => {
-            out.add(" ");
-            show_message(out, names, *msg)
-        }
+        Some(Part::Token(tok)) => show_token_object(out, names, *tok),
+        Some(Part::Message(msg)) => show_message_object(out, names, *msg),
         _ => out.add(""),
     }
 }

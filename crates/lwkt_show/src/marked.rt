@@ -20,11 +20,14 @@ fn show_letter(out: &mut Page, letter: u8)
 fn show_marked_letter(out: &mut Page, letter: u8)
     ensures { GrowsBy out.old out.new (marked_letter letter) }
 {
-    match letter {
-        b'&' => out.add("&amp;"),
-        b'<' => out.add("&lt;"),
-        b'>' => out.add("&gt;"),
-        _ => show_letter(out, letter),
+    if letter == b'&' {
+        out.add("&amp;")
+    } else if letter == b'<' {
+        out.add("&lt;")
+    } else if letter == b'>' {
+        out.add("&gt;")
+    } else {
+        show_letter(out, letter)
     }
 }
 
@@ -32,10 +35,12 @@ fn show_marked_letter(out: &mut Page, letter: u8)
 fn show_quoted_letter(out: &mut Page, letter: u8)
     ensures { GrowsBy out.old out.new (quoted_letter letter) }
 {
-    match letter {
-        b'"' => out.add("\\\""),
-        b'\\' => out.add("\\\\"),
-        _ => show_letter(out, letter),
+    if letter == b'"' {
+        out.add("\\\"")
+    } else if letter == b'\\' {
+        out.add("\\\\")
+    } else {
+        show_letter(out, letter)
     }
 }
 

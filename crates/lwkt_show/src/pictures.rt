@@ -1,5 +1,5 @@
 //! A picture of a run.
-ghost use Rattle.std.specs.Prelude.{◌≡◌, [], None, IfErr, IsTrue};
+ghost use Rattle.std.specs.Prelude.{◌≡◌, None, IfErr, IsTrue, length};
 ghost use Rattle.lwkt_show.specs.Shown.{MayBeRefused};
 
 use crate::boxes::{below_of, content_of, deed_of, is_alone, label_of, width_for as box_width};
@@ -229,9 +229,12 @@ fn fault_of(replay: &Replay, scene: &Scene) -> Option<(Fault, bool)> {
 
 // Whether nothing changes in a turn: no thread runs or ends, and nothing happens to a token or a message.
 fn is_idle(replay: &Replay, scene: &Scene) -> bool
-    ensures { IsTrue result → (scene.now.poll ≡ None) × (scene.now.part.now ≡ []) }
+    ensures { IsTrue result → (scene.now.poll ≡ None) × (length scene.now.part.now ≡ 0) }
 {
-    scene.poll.is_none() && scene.part.is_empty() && ended_by(replay, scene).is_none()
+    match scene.poll {
+        Some(_) => false,
+        None => scene.part.is_empty() && ended_by(replay, scene).is_none(),
+    }
 }
 
 // What the box of a turn says, and what below that: the thread and what it does, or only that where its processor has no other thread.

@@ -6,7 +6,7 @@ ghost use Rattle.lwkt_refusals.specs.Pages.{GrowsBy};
 ghost use Rattle.lwkt_show.specs.Timelines.{place_text, track_text};
 
 use crate::boxes::Kind;
-use crate::columns::Span;
+use crate::columns::{Need, Span};
 use crate::layouts::{slot_of, zeros};
 use crate::marked::show_quoted;
 use crate::options::Options;
@@ -136,8 +136,10 @@ fn show_tracks(
 
 // Appends what a turn is called: the thread and what it does, or for what one waits.
 fn show_turn_name(out: &mut Page, turn: &TurnBox) {
-    if turn.content.kind != Kind::Thread && turn.content.kind != Kind::Ready {
-        out.add("waits: ");
+    match turn.content.kind {
+        Kind::Thread | Kind::Ready => {}
+        Kind::Empty => out.add("no thread"),
+        Kind::Token | Kind::Reply | Kind::Port => out.add("waits: "),
     }
     show_quoted(out, turn.label.as_str());
     if !turn.deed.is_empty() {
@@ -167,10 +169,10 @@ fn show_turn_slice(out: &mut Page, turn: &TurnBox) {
     out.add("\"}}");
 }
 
-// Appends the turns, but for those of processors without a thread that is left.
-fn show_turns(out: &mut Page, boxes: &[TurnBox]) {
-    for turn in boxes {
-        if turn.content.kind != Kind::Empty {
+// Appends the turns, but for those of processors without a thread that is left in which nothing changes.
+fn show_turns(out: &mut Page, boxes: &[TurnBox], needs: &[Need]) {
+    for (turn, need) in boxes.iter().zip(needs.iter()) {
+        if turn.content.kind != Kind::Empty || !need.is_idle {
             show_turn_slice(out, turn);
         }
     }
@@ -264,7 +266,7 @@ fn timeline(
     let mut out = Page::new(alloc);
     out.add("{\"displayTimeUnit\":\"ns\",\"traceEvents\":[\n");
     show_tracks(alloc, &mut out, names, run, &sketch)?;
-    show_turns(&mut out, &sketch.boxes);
+    show_turns(&mut out, &sketch.boxes, &sketch.needs);
     show_holdings(&mut out, names, &sketch.bars);
     show_flows(&mut out, names, sketch.span, &sketch.ways);
     out.add("\n]}\n");
