@@ -1,6 +1,5 @@
 //! Shows a run of a script: turn by turn as lines, as a trace for `lwkt_check`, as a picture, as a page that plays it, as a timeline, or as
-//! the written sections of each token;
-//! and says why its threads haven't ended.
+//! the written sections of each token; and says why its threads haven't ended.
 //!
 //! Words: the *options* say which turns are *chosen* and in which form they are shown; a run goes in rounds or *along* an order of
 //! its processors; a run that made none of the chosen turns ended *before* them. A *reel* is what was kept of a run, and a *scene* one turn

@@ -19,7 +19,6 @@ use crate::sketches::{Sketch, TurnBox};
 use crate::turns::{pass_turn, show_turn};
 use crate::verdicts::{Told, show_told, told_of};
 use crate::words::{show_thread, show_token_at};
-use lwkt_base::memory::push;
 use lwkt_base::{Answer, Fault, OutOfMemory, ThreadId, ThreadState};
 use lwkt_refusals::Page;
 use lwkt_text::Names;

@@ -254,6 +254,17 @@ fn show_flows(out: &mut Page, names: Option<&Names>, span: Span, ways: &[Way]) {
     }
 }
 
+// Appends what stands before the events: which turns are shown, of so many.
+fn show_front(out: &mut Page, span: Span, turns: usize) {
+    out.size(
+        "{\"displayTimeUnit\":\"ns\",\"otherData\":{\"first\":",
+        span.first,
+    );
+    out.size(",\"last\":", span.last);
+    out.size(",\"turns\":", turns);
+    out.add("},\"traceEvents\":[\n");
+}
+
 // The timeline of a run that is made again.
 fn timeline(
     alloc: Global,
@@ -264,7 +275,7 @@ fn timeline(
 ) -> Result<String, OutOfMemory> {
     let sketch = sketch_of(alloc, names, run, replay, chosen)?;
     let mut out = Page::new(alloc);
-    out.add("{\"displayTimeUnit\":\"ns\",\"traceEvents\":[\n");
+    show_front(&mut out, sketch.span, run.turns.len());
     show_tracks(alloc, &mut out, names, run, &sketch)?;
     show_turns(&mut out, &sketch.boxes, &sketch.needs);
     show_holdings(&mut out, names, &sketch.bars);
