@@ -1,12 +1,12 @@
 -- Where the columns of a picture stand (own).
-use Rattle.std.specs.Prelude.{ℕ, ◌+◌, ◌||◌, min, nat_le, Bool, if◌then◌else◌}
+use Rattle.std.specs.Prelude.{ℕ, ◌+◌, ◌-◌, ◌||◌, min, nat_le, Bool, if◌then◌else◌}
 use Rattle.lwkt_show.specs.declared.columns.Column.{Column}
 use Rattle.lwkt_show.specs.declared.columns.Next.{Next}
 use Rattle.lwkt_show.specs.Lines.{most}
 
 -- whether so much has room behind what stands in a band, which reaches to 1268 pixels from the left; one column always has
 abbrev pub has_room : Next → ℕ → Bool
-has_room next width = nat_le next.x next.left || nat_le (next.x + width) 1268
+has_room next width = nat_le next.x next.left || nat_le width (1268 - next.x)
 
 -- where a column stands that is so wide: here, or else at the left of the next band
 abbrev pub with_room : Next → ℕ → Next

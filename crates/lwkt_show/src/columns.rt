@@ -158,7 +158,7 @@ impl Next {
     fn has_room(self, width: usize) -> bool
         ensures { result ≡ has_room self width }
     {
-        self.x <= self.left || self.x.saturating_add(width) <= RIGHTMOST
+        self.x <= self.left || width <= RIGHTMOST.saturating_sub(self.x)
     }
 
     // The same, in the next band if so much has no room in this one.
