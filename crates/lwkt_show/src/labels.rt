@@ -103,6 +103,16 @@ fn is_said(columns: &Columns, tagged: &Tagged) -> bool {
     }
 }
 
+// Where a label begins that is so wide: where no arrow crosses it that goes up from its turn, or comes to it.
+fn place_of(columns: &Columns, tagged: &Tagged, width: usize) -> usize {
+    let middle = columns.middle(tagged.turn);
+    match tagged.tag {
+        Tag::Mail(_, _) if tagged.since.is_some() => middle.saturating_add(7),
+        Tag::Mail(_, _) => middle.saturating_sub(width.saturating_add(1)),
+        Tag::Fault(_, _) | Tag::Abort(_) => columns.x(tagged.turn).saturating_add(2),
+    }
+}
+
 impl Labels {
     // No labels yet in so many bands.
     fn blank(alloc: Global, bands: usize) -> Result<Self, OutOfMemory> {
@@ -168,11 +178,7 @@ impl Labels {
         let text = text_of(alloc, names, tag)?;
         let width = text_width(text.len().max(3));
         let right = width_for(columns).saturating_sub(2);
-        let x = match tag {
-            // (so that no arrow that goes up from the turn crosses it)
-            Tag::Mail(_, _) => columns.middle(turn).saturating_sub(width.saturating_add(1)),
-            Tag::Fault(_, _) | Tag::Abort(_) => columns.x(turn).saturating_add(2),
-        };
+        let x = place_of(columns, &tagged, width);
         let x = x.min(right.saturating_sub(width));
         let Some(line) = self.take_line(cpu, x, x.saturating_add(width).saturating_add(4)) else {
             return Ok(());

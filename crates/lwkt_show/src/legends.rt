@@ -1,9 +1,10 @@
 //! What the parts of a picture mean, of those that it has.
 use crate::boxes::{Below, Content, Kind, Labelled, show_box, width_for};
+use crate::columns::Column;
 use crate::drawings::show_stored;
 use crate::labels::{Label, Tag};
 use crate::shapes::{
-    BOLD, Look, Point, show_bar, show_flag, show_label, show_line, show_ring, show_text_at,
+    BOLD, Look, Point, digits, show_bar, show_flag, show_label, show_line, show_ring, show_text_at,
     show_word, text_width,
 };
 use crate::sketches::{Bar, Sketch, Stored, TurnBox, Way};
@@ -122,6 +123,15 @@ impl Legend {
         self.mean(at, sign, meaning);
     }
 
+    // Appends how many rounds share a column, and what that means.
+    fn add_rounds(&mut self, rounds: usize) {
+        let meaning = "so many times nothing changes";
+        let sign = text_width(digits(rounds as u64).saturating_add(1));
+        let at = self.next(sign, meaning.len());
+        show_label(&mut self.page, at.by(0, BASE), "", "&#215;", rounds);
+        self.mean(at, sign, meaning);
+    }
+
     // Appends a fault by its number, behind a sign, and its text.
     fn add_fault(&mut self, sign: &str, fault: Fault) {
         let at = self.next(SIGN, FAULT_LETTERS);
@@ -199,6 +209,15 @@ fn add_boxes(legend: &mut Legend, sketch: &Sketch) {
     add_kind(legend, sketch, Some(Kind::Ready), "none runs: one is ready");
     add_kind(legend, sketch, None, "and others wait for something else");
     add_kind(legend, sketch, Some(Kind::Empty), "no thread is left");
+}
+
+// Appends what the number of rounds means that share a column, where some do.
+fn add_folds(legend: &mut Legend, columns: &[Column]) {
+    for column in columns {
+        if column.rounds > 1 {
+            return legend.add_rounds(column.rounds);
+        }
+    }
 }
 
 // Appends what the bars of a mode mean, where there is one.
@@ -319,6 +338,7 @@ pub(crate) fn legend_of(
     alloc: Global,
     names: Option<&Names>,
     sketch: &Sketch,
+    columns: &[Column],
     labels: &[Label],
     y: usize,
     width: usize,
@@ -329,6 +349,7 @@ pub(crate) fn legend_of(
         width,
     };
     add_boxes(&mut legend, sketch);
+    add_folds(&mut legend, columns);
     add_rows(&mut legend, names, sketch);
     add_ways(&mut legend, names, &sketch.ways);
     add_faults(

@@ -439,7 +439,15 @@ pub(crate) fn drawn(
         Some(_) => layout.height.saturating_add(VERDICT),
         None => layout.height,
     };
-    let (legend, end) = legend_of(alloc, names, sketch, &labels.list, top, width);
+    let (legend, end) = legend_of(
+        alloc,
+        names,
+        sketch,
+        &layout.columns.list,
+        &labels.list,
+        top,
+        width,
+    );
     let mut out = Page::new(alloc);
     draw_head(&mut out, width, end.saturating_add(20));
     draw_picture(alloc, &mut out, names, run, &layout, sketch, &labels)?;
