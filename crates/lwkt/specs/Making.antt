@@ -6,6 +6,7 @@ use Rattle.lwkt_explore.specs.declared.searches.Found.{Found}
 use Rattle.lwkt_explore.specs.Expectations.{status_of_text}
 use Rattle.lwkt_explore.specs.Extents.{is_complete}
 use Rattle.lwkt_explore.specs.Judgements.{judgement_of, status_of_judgement}
+use Rattle.lwkt_explore.specs.Rounds.{AreRounds}
 use Rattle.lwkt_explore.specs.Outcomes.{AreOutcomes, AreShort, AreWhole, HasEnded}
 use Rattle.lwkt_explore.specs.declared.forms.Telling.{Telling}
 use Rattle.lwkt_explore.specs.Jsons.{finding_json}
@@ -53,7 +54,7 @@ pub record IsReport (mode : Mode) (wording : Wording) (input : Input) (text : Li
   pub closing : Closing
   pub closes : MayCloseBy mode input.script closing
   pub is_text : text ≡ report_in wording input closing
-  pub is_status : status ≡ status_of_judgement (judgement_of input.expectations closing)
+  pub is_status : status ≡ status_of_judgement (judgement_of input.expectations mode closing)
 
 -- the names in which a run is shown: those of a text, unless numbers are asked for
 abbrev pub names_in : Bool → Input → Option Names
@@ -101,33 +102,35 @@ abbrev pub IsFound : Search → Script → Found → Type 0
 IsFound search script found = IsFoundBy search.random search script found
 
 -- the text of what is found of an input with these bytes, in a layout
-abbrev pub text_in_layout : Layout → Option Telling → List ℕ → Input → Found → List ℕ
-text_in_layout Lines telling bytes input found = text_in telling found
-text_in_layout Json telling bytes input found = finding_json telling bytes input.expectations found
+abbrev pub text_in_layout : Layout → Option Telling → List ℕ → Input → Option Closing → Found → List ℕ
+text_in_layout Lines telling bytes input rounds found = text_in telling found
+text_in_layout Json telling bytes input rounds found = finding_json telling bytes input.expectations rounds found
 
 -- the same in these names
-pub record IsToldFinding (layout : Layout) (names : Names) (bytes : List ℕ) (input : Input) (found : Found) (text : List ℕ) : Type 0 where
+pub record IsToldFinding (layout : Layout) (names : Names) (bytes : List ℕ) (input : Input) (rounds : Option Closing) (found : Found) (text : List ℕ) : Type 0 where
   pub telling : Telling
   pub are_names : telling.names.now ≡ names
   pub is_script : telling.script.now ≡ input.script
-  pub is_text : text ≡ text_in_layout layout (Some telling) bytes input found
+  pub is_text : text ≡ text_in_layout layout (Some telling) bytes input rounds found
 
 -- the same in the names of a text, if it has some
-abbrev pub IsNamedFinding : Layout → Option Names → List ℕ → Input → Found → List ℕ → Type 0
-IsNamedFinding layout None bytes input found text = text ≡ text_in_layout layout None bytes input found
-IsNamedFinding layout (Some names) bytes input found text = IsToldFinding layout names bytes input found text
+abbrev pub IsNamedFinding : Layout → Option Names → List ℕ → Input → Option Closing → Found → List ℕ → Type 0
+IsNamedFinding layout None bytes input rounds found text = text ≡ text_in_layout layout None bytes input rounds found
+IsNamedFinding layout (Some names) bytes input rounds found text = IsToldFinding layout names bytes input rounds found text
 
 -- the same in numbers, if that is asked for, or else in names
-abbrev pub IsFindingIn : Bool → Layout → List ℕ → Input → Found → List ℕ → Type 0
-IsFindingIn true layout bytes input found text = text ≡ text_in_layout layout None bytes input found
-IsFindingIn false layout bytes input found text = IsNamedFinding layout input.names bytes input found text
+abbrev pub IsFindingIn : Bool → Layout → List ℕ → Input → Option Closing → Found → List ℕ → Type 0
+IsFindingIn true layout bytes input rounds found text = text ≡ text_in_layout layout None bytes input rounds found
+IsFindingIn false layout bytes input rounds found text = IsNamedFinding layout input.names bytes input rounds found text
 
 -- the text of what is found of an input with these bytes; the status is by what is expected
 pub record IsFindingOf (search : Search) (bytes : List ℕ) (input : Input) (text : List ℕ) (status : ℕ) : Type 0 where
   pub found : Found
   pub is_found : IsFound search input.script found
-  pub is_text : IsFindingIn search.in_numbers search.layout bytes input found text
-  pub is_status : status ≡ status_of_text input.expectations found
+  pub rounds : Option Closing
+  pub are_rounds : AreRounds input.script input.expectations rounds
+  pub is_text : IsFindingIn search.in_numbers search.layout bytes input rounds found text
+  pub is_status : status ≡ status_of_text input.expectations rounds found
 
 -- the same of an input with some bytes, by which JSON has the lines of what a text says
 pub record IsFinding (search : Search) (input : Input) (text : List ℕ) (status : ℕ) : Type 0 where

@@ -10,10 +10,10 @@ use crate::tickers::Ticker;
 use crate::written::Made;
 use lwkt_base::{Fault, OutOfMemory};
 use lwkt_explore::{
-    Found, Telling, explore, json_of, quoted_verdicts_of, sample, status_of_text, text_in,
-    verdicts_of,
+    Found, Telling, explore, json_of, quoted_verdicts_of, rounds_of, sample, status_of_text,
+    text_in, verdicts_of,
 };
-use lwkt_report::Sink;
+use lwkt_report::{Closing, Sink};
 use lwkt_request::{Layout, Search};
 use lwkt_script::Script;
 use lwkt_text::claims::Expectation;
@@ -53,13 +53,14 @@ fn text_in_layout(
     telling: Option<&Telling<'_>>,
     bytes: &[u8],
     input: &Input,
+    rounds: &Option<Closing>,
     found: &Found,
 ) -> Result<String, OutOfMemory>
-    ensures { IfOk result (λ text. string_bytes text ≡ text_in_layout layout (option_copied telling.entry) bytes.now input.now found.now) }
+    ensures { IfOk result (λ text. string_bytes text ≡ text_in_layout layout (option_copied telling.entry) bytes.now input.now rounds.now found.now) }
 {
     match layout {
         Layout::Lines => text_in(alloc, telling, found),
-        Layout::Json => json_of(alloc, telling, bytes, input.expectations.as_slice(), found),
+        Layout::Json => json_of(alloc, telling, bytes, input.expectations.as_slice(), rounds, found),
     }
 }
 
@@ -70,13 +71,14 @@ fn told_text(
     names: &Names,
     bytes: &[u8],
     input: &Input,
+    rounds: &Option<Closing>,
     found: &Found,
 ) -> Result<String, OutOfMemory>
-    ensures { IfOk result (λ text. IsToldFinding layout names.now bytes.now input.now found.now (string_bytes text)) }
+    ensures { IfOk result (λ text. IsToldFinding layout names.now bytes.now input.now rounds.now found.now (string_bytes text)) }
 {
     let script = &input.script;
     let telling = Telling { names, script };
-    text_in_layout(alloc, layout, Some(&telling), bytes, input, found)
+    text_in_layout(alloc, layout, Some(&telling), bytes, input, rounds, found)
 }
 
 // The same in the names of a text, if it has some.
@@ -85,13 +87,14 @@ fn named_text(
     layout: Layout,
     bytes: &[u8],
     input: &Input,
+    rounds: &Option<Closing>,
     found: &Found,
 ) -> Result<String, OutOfMemory>
-    ensures { IfOk result (λ text. IsNamedFinding layout input.now.names bytes.now input.now found.now (string_bytes text)) }
+    ensures { IfOk result (λ text. IsNamedFinding layout input.now.names bytes.now input.now rounds.now found.now (string_bytes text)) }
 {
     match &input.names {
-        Some(names) => told_text(alloc, layout, names, bytes, input, found),
-        None => text_in_layout(alloc, layout, None, bytes, input, found),
+        Some(names) => told_text(alloc, layout, names, bytes, input, rounds, found),
+        None => text_in_layout(alloc, layout, None, bytes, input, rounds, found),
     }
 }
 
@@ -101,14 +104,15 @@ fn text_by(
     search: Search,
     bytes: &[u8],
     input: &Input,
+    rounds: &Option<Closing>,
     found: &Found,
 ) -> Result<String, OutOfMemory>
-    ensures { IfOk result (λ text. IsFindingIn search.in_numbers search.layout bytes.now input.now found.now (string_bytes text)) }
+    ensures { IfOk result (λ text. IsFindingIn search.in_numbers search.layout bytes.now input.now rounds.now found.now (string_bytes text)) }
 {
     if search.in_numbers {
-        text_in_layout(alloc, search.layout, None, bytes, input, found)
+        text_in_layout(alloc, search.layout, None, bytes, input, rounds, found)
     } else {
-        named_text(alloc, search.layout, bytes, input, found)
+        named_text(alloc, search.layout, bytes, input, rounds, found)
     }
 }
 
@@ -119,15 +123,16 @@ fn verdicts_in(
     paints: bool,
     bytes: &[u8],
     expectations: &[Expectation],
+    rounds: &Option<Closing>,
     found: &Found,
 ) -> Result<String, OutOfMemory> {
     if search.layout == Layout::Json {
         return Ok(String::new(alloc));
     }
     if search.in_numbers {
-        verdicts_of(alloc, bytes, expectations, found)
+        verdicts_of(alloc, bytes, expectations, rounds, found)
     } else {
-        quoted_verdicts_of(alloc, paints, bytes, expectations, found)
+        quoted_verdicts_of(alloc, paints, bytes, expectations, rounds, found)
     }
 }
 
@@ -147,9 +152,10 @@ pub fn finding_of<R: Clock, E: Sink>(
 {
     let found = found_of(rt, alloc, search, &input.script, errors)?;
     let expectations = input.expectations.as_slice();
-    let text = text_by(alloc, search, bytes, input, &found)?;
-    let verdicts = verdicts_in(alloc, search, paints, bytes, expectations, &found)?;
-    let status = status_of_text(expectations, &found);
+    let rounds = rounds_of(alloc, &input.script, expectations)?;
+    let text = text_by(alloc, search, bytes, input, &rounds, &found)?;
+    let verdicts = verdicts_in(alloc, search, paints, bytes, expectations, &rounds, &found)?;
+    let status = status_of_text(expectations, &rounds, &found);
     Ok(Made {
         text,
         status,

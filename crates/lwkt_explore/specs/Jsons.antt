@@ -202,9 +202,9 @@ witness_json None = []
 witness_json (Some outcome) = codes ",\"order\":" ++ list_json number_json outcome.order.items
 
 -- what a text says: its line, whether it is so, and the order of the outcome that decides it, if one does
-abbrev pub claim_json : List ℕ → Found → ℕ → Expectation → List ℕ
-claim_json bytes found n e =
-    codes "{\"line\":" ++ decimal (line_of bytes e.at) ++ codes ",\"verdict\":\"" ++ truth_text (truth_over_orders found e) ++ codes "\"" ++ witness_json (find (decides e) found.outcomes.all.items) ++ codes "}"
+abbrev pub claim_json : List ℕ → Option Closing → Found → ℕ → Expectation → List ℕ
+claim_json bytes rounds found n e =
+    codes "{\"line\":" ++ decimal (line_of bytes e.at) ++ codes ",\"verdict\":\"" ++ truth_text (truth_over_orders rounds found e) ++ codes "\"" ++ witness_json (find (decides e) found.outcomes.all.items) ++ codes "}"
 
 -- how many turns were tried, whether each order was, and each turn, and what ended the search
 abbrev pub extent_json : Found → List ℕ
@@ -212,7 +212,7 @@ extent_json found =
     codes ",\"turns\":" ++ decimal found.turns ++ codes ",\"complete\":" ++ bool_json (is_complete found) ++ codes ",\"whole\":" ++ bool_json found.is_whole ++ codes ",\"bound\":" ++ bound_json found.extent
 
 -- the outcomes, in the order in which they were found, the lost states, what was tried, whether that is all, and the claims
-abbrev pub finding_json : Option Telling → List ℕ → List Expectation → Found → List ℕ
-finding_json telling bytes expectations found =
+abbrev pub finding_json : Option Telling → List ℕ → List Expectation → Option Closing → Found → List ℕ
+finding_json telling bytes expectations rounds found =
     codes "{\"outcomes\":[" ++ items_json (outcome_json telling found.tried found.outcomes.counts.items) found.outcomes.all.items ++ codes "],\"lost\":" ++ lost_json found.lost ++ tried_json found.tried ++ extent_json found
-    ++ codes ",\"claims\":[" ++ items_json (claim_json bytes found) expectations ++ codes "]}\n"
+    ++ codes ",\"claims\":[" ++ items_json (claim_json bytes rounds found) expectations ++ codes "]}\n"

@@ -8,8 +8,10 @@ pub mod Laws
 pub mod Orders
 pub mod Outcomes
 pub mod Readings
+pub mod Rounds
 pub mod Searches
 pub mod Statuses
 pub mod Texts
 pub mod Tries
+pub mod Truths
 pub mod Verdicts

@@ -15,6 +15,7 @@ use crate::searches::{Found, Tried};
 use crate::verdicts::words_of;
 use lwkt_base::OutOfMemory;
 use lwkt_base::memory::{push_str, put};
+use lwkt_report::Closing;
 use lwkt_text::claims::Expectation;
 use std::alloc::Global;
 
@@ -138,13 +139,14 @@ fn add_witness(out: &mut String, witness: Option<&Outcome>) -> Result<(), OutOfM
 fn add_claim(
     out: &mut String,
     bytes: &[u8],
+    rounds: &Option<Closing>,
     found: &Found,
     n: usize,
     expectation: &Expectation,
 ) -> Result<(), OutOfMemory>
-    ensures { OnOk result (string_bytes out.new ≡ string_bytes out.old ++ claim_json bytes.now found.now n expectation.now) }
+    ensures { OnOk result (string_bytes out.new ≡ string_bytes out.old ++ claim_json bytes.now rounds.now found.now n expectation.now) }
 {
-    let words = words_of(truth_over_orders(expectation, found));
+    let words = words_of(truth_over_orders(expectation, rounds, found));
     put(
         out,
         (
@@ -163,14 +165,15 @@ fn add_claim(
 fn add_claims(
     out: &mut String,
     bytes: &[u8],
+    rounds: &Option<Closing>,
     found: &Found,
     expectations: &[Expectation],
 ) -> Result<(), OutOfMemory>
-    ensures { OnOk result (string_bytes out.new ≡ string_bytes out.old ++ items_json (claim_json bytes.now found.now) expectations.now) }
+    ensures { OnOk result (string_bytes out.new ≡ string_bytes out.old ++ items_json (claim_json bytes.now rounds.now found.now) expectations.now) }
 {
     for (n, expectation) in expectations.iter().enumerate() {
         add_comma(out, n)?;
-        add_claim(out, bytes, found, n, expectation)?;
+        add_claim(out, bytes, rounds, found, n, expectation)?;
     }
     Ok(())
 }
@@ -209,6 +212,7 @@ pub fn json_of(
     telling: Option<&Telling<'_>>,
     bytes: &[u8],
     expectations: &[Expectation],
+    rounds: &Option<Closing>,
     found: &Found,
 ) -> Result<String, OutOfMemory>
     ensures { IfOk result (λ text. string_bytes text ≡ finding_json (option_copied telling.entry) bytes.now expectations.now found.now) }
@@ -229,7 +233,7 @@ pub fn json_of(
     add_tried(&mut out, found.tried)?;
     add_extent(&mut out, found)?;
     push_str(&mut out, ",\"claims\":[")?;
-    add_claims(&mut out, bytes, found, expectations)?;
+    add_claims(&mut out, bytes, rounds, found, expectations)?;
     push_str(&mut out, "]}\n")?;
     Ok(out)
 }
