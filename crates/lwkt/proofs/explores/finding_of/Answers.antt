@@ -22,7 +22,11 @@ returns-clause-made g c = record {
   is = record {
     found = c.in_ok-found.found;
     is_found = c.in_ok-found.ensures.found;
+    rounds = c.in_ok-rounds.rounds;
+    are_rounds =
+        let F : List Expectation → Type 0 = λ said. AreRounds c.args.input.now.script said c.in_ok-rounds.rounds in
+        subst F c.as_slice-expectations.ensures c.in_ok-rounds.ensures.made;
     is_text = c.in_ok-text.ensures;
-    is_status = c.status_of_text-status.ensures ∙ ap (λ (said : List Expectation). status_of_text said c.in_ok-found.found) c.as_slice-expectations.ensures;
+    is_status = c.status_of_text-status.ensures ∙ ap (λ (said : List Expectation). status_of_text said c.in_ok-rounds.rounds c.in_ok-found.found) c.as_slice-expectations.ensures;
   };
 }
