@@ -109,6 +109,7 @@ fn fact_at(alloc: Global, names: &Names, words: &[Word], i: usize) -> Result<Fou
     requires start { i < length words.now }
     ensures exact { IsAsRead result (fact_at names.now words.now i) }
     ensures most { IfOk result (λ f. f.end ≤ length words.now) }
+    ensures least { IfOk result (λ f. i ≤ f.end) }
 {
     let end = i + fact_length(&words[i..]);
     if end == i {
