@@ -64,10 +64,10 @@ pub record IsSearched (script : Script) (cpus turns bound : ℕ) (found : Search
 
 -- a task of the script's processors, what it found, and outcomes of the script whose orders are within its turns
 pub record IsUnderWay (script : Script) (task : Task Explorer) (found : Searched Store) (outcomes : Outcomes) : Type 0 where
-  pub script : task.machine.script.now ≡ script
+  pub is_script : task.machine.script.now ≡ script
   pub cpus : task.cpus ≡ script.cpus
   pub searched : IsSearched script task.cpus task.turns task.bound found
-  pub outcomes : AreOutcomes script outcomes
+  pub are_outcomes : AreOutcomes script outcomes
   pub short : AreShort task.turns outcomes
 
 -- a state is told by the report of the run along an order that leads there

@@ -59,7 +59,7 @@ pub returns-in-None-clause-stuck : goal.returns-in-None-clause-stuck
 returns-in-None-clause-stuck g c = λ complete.
     let script = c.args.script.now in
     let unmet : c.bound_of.result ≡ None = search rules in
-    let met : c.args.found.now.growth.met ≡ None = c.bound_of.ensures unmet in
+    let met : c.args.found.now.growth.met ≡ None = c.bound_of.ensures.none unmet in
     let same : c.compared.new.outcomes ≡ c.told_of.new.outcomes = c.in_ok-bound.ensures.same (search rules) in
     let G : Outcomes → Type 0 = StuckAt (IsStandstill script) script in
     subst G (sym (c.whole_of.ensures.outcomes ∙ same)) (c.in_ok-told.ensures.stuck c.in-None.is met)
@@ -99,11 +99,12 @@ returns-in-Some-told-clause-tried g c = let F : Tried → Type 0 = HasTriedState
 
 pub returns-in-None-clause-tried : goal.returns-in-None-clause-tried
 returns-in-None-clause-tried g c = let F : Tried → Type 0 = HasTriedStates c.args.task.now.bound in subst F (sym c.whole_of.ensures.tried) c.states_in-tried.ensures
+
 pub compared-requires : goal.compared-requires
 compared-requires g c = record {
-  script = c.requires.script;
+  is_script = c.requires.script;
   cpus = c.requires.cpus;
   searched = c.requires.searched;
-  outcomes = c.told_of.ensures.found;
+  are_outcomes = c.told_of.ensures.found;
   short = c.told_of.ensures.short;
 }

@@ -18,7 +18,7 @@ order-requires-clause-there g c =
 
 pub order-requires-clause-long : goal.order-requires-clause-long
 order-requires-clause-long g c =
-    let is = c.requires.searched in
+    let is = c.requires.way.searched in
     let noted : length c.args.found.now.growth.links ≡ length (kept c.args.found.now.growth.store) = is.noted in
     omega arith
 

@@ -60,9 +60,9 @@ returns-in-Err-tell_cut g c = record {
 
 pub tell_cut-requires : goal.tell_cut-requires
 tell_cut-requires g c = record {
-  script = c.requires.script;
+  is_script = c.requires.script;
   cpus = c.requires.cpus;
   searched = c.requires.searched;
-  outcomes = c.tell.ensures.found;
+  are_outcomes = c.tell.ensures.found;
   short = c.tell.ensures.short;
 }
