@@ -192,9 +192,13 @@ bound_json Sampled = codes "null"
 abbrev pub is_line_feed : ℕ → Bool
 is_line_feed byte = byte == 10
 
+-- how many of these bytes end a line
+abbrev pub feeds_in : List ℕ → ℕ
+feeds_in bytes = length (filter is_line_feed bytes)
+
 -- the line of a text on which the byte stands that so many others stand before, from 1 on, as far as 64 bits go
 abbrev pub line_of : List ℕ → ℕ → ℕ
-line_of bytes at = min 18446744073709551615 (length (filter is_line_feed (take (min at (length bytes)) bytes)) + 1)
+line_of bytes at = min 18446744073709551615 (feeds_in (take (min at (length bytes)) bytes) + 1)
 
 -- the order of the outcome that decides
 abbrev pub witness_json : Option Outcome → List ℕ

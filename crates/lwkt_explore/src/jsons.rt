@@ -1,7 +1,7 @@
 //! What is found, as one JSON object.
 ghost use Rattle.std.specs.Prelude.{◌≡◌, ◌++◌, IfOk, OnOk, string_bytes};
 ghost use Rattle.std.specs.Option.{option_copied};
-ghost use Rattle.lwkt_explore.specs.Jsons.{extent_json, items_json, count_json, outcome_json, lost_json, tried_json, bound_json, is_line_feed, line_of, witness_json, claim_json, finding_json};
+ghost use Rattle.lwkt_explore.specs.Jsons.{extent_json, items_json, count_json, outcome_json, lost_json, tried_json, bound_json, is_line_feed, feeds_in, line_of, witness_json, claim_json, finding_json};
 
 use crate::expectations::{deciding, truth_over_orders};
 use crate::extents::{Bound, Extent};
@@ -115,13 +115,19 @@ fn is_line_feed(byte: u8) -> bool
     byte == b'\n'
 }
 
+// How many bytes end a line.
+fn feeds_in(bytes: &[u8]) -> usize
+    ensures { result ≡ feeds_in bytes.now }
+{
+    bytes.iter().filter(|byte| is_line_feed(**byte)).count()
+}
+
 // The line of a text on which the byte stands that so many others stand before, from 1 on.
 fn line_of(bytes: &[u8], at: usize) -> usize
     ensures { result ≡ line_of bytes.now at }
 {
     let before = &bytes[..at.min(bytes.len())];
-    let feeds = before.iter().filter(|byte| is_line_feed(**byte)).count();
-    feeds.saturating_add(1)
+    feeds_in(before).saturating_add(1)
 }
 
 // Appends the order of the outcome that decides, if one does.
