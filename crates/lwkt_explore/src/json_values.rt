@@ -112,8 +112,8 @@ fn add_message(
 {
     push_str(out, "{\"message\":")?;
     add_message_named(alloc, out, telling, message)?;
-    put(out, (",\"round\":", end.round, ",\"state\":\""))?;
-    put(out, (owner_word(end.state), "\"}"))
+    let (round, word) = (end.round, owner_word(end.state));
+    put(out, (",\"round\":", round, ",\"state\":\"", word, "\"}"))
 }
 
 // Appends what a thread is doing.

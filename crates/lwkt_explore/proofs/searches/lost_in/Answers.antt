@@ -1,4 +1,4 @@
-use Rattle.std.proofs.Common.{◌≡◌, ℕ, List, length, arith, subst, sym, ◌∙◌, Some}
+use Rattle.std.proofs.Common.{◌≡◌, ◌≤◌, ℕ, List, length, arith, subst, sym, ◌∙◌, Some}
 use Rattle.std.specs.List.{slice_get}
 use Rattle.lwkt_plain.specs.Stores.{kept}
 use Rattle.lwkt_search.specs.declared.searches.Outcome.{Outcome as Last}
@@ -24,7 +24,7 @@ pub returns-in-None-clause-none : goal.returns-in-None-clause-none
 returns-in-None-clause-none c = λ yes none.
     let task = c.args.task.now in
     let F : List Last → Type 0 = λ xs. slice_get xs 0 ≡ Rattle.std.proofs.Common.None in
-    none_found task.machine.script.now task.cpus (kept c.lost_states-lost.new.growth.store) c.in_ok-lost.lost.items (c.in_ok-lost.ensures.complete yes) (subst F c.as_slice.ensures.value (sym c.in-None.ensures.value))
+    none_found task.machine.script.now task.cpus (kept c.lost_states.new.growth.store) c.in_ok-lost.lost.items (c.in_ok-lost.ensures.complete yes) (subst F c.as_slice.ensures.value (sym c.in-None.ensures.value))
 
 pub returns-clause-some : goal.returns-clause-some
 returns-clause-some c = λ yes.
@@ -32,5 +32,5 @@ returns-clause-some c = λ yes.
     let one = c.in-Some.first.now in
     let F : List Last → Type 0 = λ xs. Some one ≡ slice_get xs 0 in
     let G : List ℕ → Type 0 = λ order. IsLostAlong task.machine.script.now task.cpus order in
-    let along : G one.order.items = first_lost task.machine.script.now task.cpus (kept c.lost_states-lost.new.growth.store) c.in_ok-lost.lost.items one (subst F c.as_slice.ensures.value c.in-Some.ensures.value) (c.in_ok-lost.ensures.sound yes) in
+    let along : G one.order.items = first_lost task.machine.script.now task.cpus (kept c.lost_states.new.growth.store) c.in_ok-lost.lost.items one (subst F c.as_slice.ensures.value c.in-Some.ensures.value) (c.in_ok-lost.ensures.sound yes) in
     subst G (sym (c.in_ok-order-in-Some.ensures.items ∙ c.as_slice-in-Some.ensures.value)) along
