@@ -59,7 +59,7 @@ pub returns-in-None-clause-stuck : goal.returns-in-None-clause-stuck
 returns-in-None-clause-stuck g c = λ complete.
     let script = c.args.script.now in
     let unmet : c.bound_of.result ≡ None = search rules in
-    let met : c.args.found.now.growth.met ≡ None = c.bound_of.ensures.none unmet in
+    let met : c.args.found.growth.met ≡ None = c.bound_of.ensures.none unmet in
     let same : c.compared.new.outcomes ≡ c.told_of.new.outcomes = c.in_ok-bound.ensures.same (search rules) in
     let G : Outcomes → Type 0 = StuckAt (IsStandstill script) script in
     subst G (sym (c.whole_of.ensures.outcomes ∙ same)) (c.in_ok-told.ensures.stuck c.in-None.is met)
