@@ -264,13 +264,13 @@ impl<M: Machine> Task<M> {
         let choice = self.machine.sets(&growth.store, at);
         begin(row, self.cpus)?;
         let has_room = self.go_on_by(&mut growth.store, &mut growth.links, row, at, choice)?;
+        let turns = row.as_slice();
+        growth.turns = growth.turns.saturating_add(tried_in(turns));
         if !has_room {
             return Ok(false);
         }
-        let turns = row.as_slice();
         let next = self.leads(&growth.store, turns, at);
         push(&mut growth.onward, next)?;
-        growth.turns = growth.turns.saturating_add(tried_in(turns));
         let is_whole = stays_whole(growth.is_whole, turns);
         growth.is_whole = is_whole;
         growth.gone_on = at + 1;
