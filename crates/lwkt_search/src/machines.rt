@@ -1,5 +1,5 @@
 //! Machines: states that are kept by number, where turns lead from them, and which of them are tried; and who looks on at a search.
-ghost use Rattle.std.specs.Prelude.{◌↔◌, ℕ, ◌<◌, List, length, slice_index_or, IsTrue, IfOk};
+ghost use Rattle.std.specs.Prelude.{◌≡◌, ◌↔◌, ℕ, ◌<◌, List, length, slice_index_or, IsTrue, IfOk};
 ghost use Rattle.lwkt_search.specs.Graphs.{IsTurned};
 
 use crate::refusals::Refusal;
