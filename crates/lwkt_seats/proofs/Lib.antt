@@ -10,3 +10,4 @@ mod BlockMoves
 mod BriefMoves
 mod CloseMoves
 mod OpeningMoves
+mod SectionMoves

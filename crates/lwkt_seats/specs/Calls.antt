@@ -1,6 +1,7 @@
 -- What a call for C does to a seat, by the number that it answers (own).
-use Rattle.std.specs.Prelude.{◌≡◌, ℕ, List, length, take, Option, None, Some}
+use Rattle.std.specs.Prelude.{◌≡◌, ◌≢◌, ◌⊎◌, ℕ, List, length, take, Option, None, Some}
 use Rattle.lwkt_base.specs.declared.names.Mode.{Mode}
+use Rattle.lwkt_base.specs.declared.names.Mode.TheVariants.{Exclusive}
 use Rattle.lwkt_bank.specs.declared.seats.CpuSeat.{CpuSeat}
 use Rattle.lwkt_seats.specs.declared.answers.Asked.{Asked}
 use Rattle.lwkt_seats.specs.declared.answers.Furthered.{Furthered}
@@ -18,7 +19,7 @@ use Rattle.lwkt_seats.specs.declared.answers.RecordRead.TheVariants as read
 use Rattle.lwkt_seats.specs.declared.answers.RecordWritten.{RecordWritten}
 use Rattle.lwkt_seats.specs.Numbers.{asked_number, furthered_number, marked_number, gave_number, loaded_number, stored_number, added_number, judged_number, restored_number, record_read_number, record_written_number}
 use Rattle.lwkt_seats.specs.Asks.{AsksFor, Furthers, MarksToken, GivesToken}
-use Rattle.lwkt_seats.specs.Cells.{Loads, StoresInCell, AddsToCell, JudgesToken, Restores}
+use Rattle.lwkt_seats.specs.Cells.{HasCell, Loads, StoresInCell, AddsToCell, JudgesToken, Restores}
 use Rattle.lwkt_seats.specs.Records.{ReadsBytes, WritesBytes, buffer_with_bytes}
 use Rattle.lwkt_base.specs.declared.names.TokId.{TokId}
 use Rattle.lwkt_base.specs.declared.limits.TheConstants.{RECORD_LIMIT}
@@ -80,6 +81,18 @@ LoadsCell tok cell before now old new answer = (loaded : Loaded) × ((answer ≡
 
 abbrev pub StoresValue : ℕ → ℕ → ℕ → CpuSeat → CpuSeat → ℕ → Type 0
 StoresValue tok cell value old new answer = (stored : Stored) × ((answer ≡ stored_number stored) × StoresInCell tok cell value old new stored)
+
+-- an exclusive reference, and the value of a cell: there is no such token or cell; or the reference is asked for, and if it is there the
+-- cell is loaded
+abbrev pub TakesAndLoads : ℕ → ℕ → ℕ → ℕ → CpuSeat → CpuSeat → ℕ → Type 0
+TakesAndLoads tok cell before now old new answer =
+    (((answer ≡ 16) ⊎ (answer ≡ 17)) × LoadsCell tok cell before now old new answer)
+    ⊎ (HasCell old tok cell × ((mid : CpuSeat) × (TakesAt Exclusive tok old mid answer × (answer ≡ 0 → LoadsCell tok cell before now mid new 0) × (answer ≢ 0 → (new ≡ mid) × (now ≡ before)))))
+
+-- a value stored, and if it is, a reference given back
+abbrev pub StoresAndGives : ℕ → ℕ → ℕ → CpuSeat → CpuSeat → ℕ → Type 0
+StoresAndGives tok cell value old new answer =
+    (mid : CpuSeat) × ((stored : ℕ) × (StoresValue tok cell value old mid stored × (stored ≡ 0 → GivesOneBack tok mid new answer) × (stored ≢ 0 → (new ≡ mid) × (answer ≡ stored))))
 
 abbrev pub AddsTo : ℕ → ℕ → ℕ → ℕ → CpuSeat → CpuSeat → ℕ → Type 0
 AddsTo tok amount before now old new answer = (added : Added) × ((answer ≡ added_number added) × AddsToCell tok amount old new added × PutsAdded added before now)

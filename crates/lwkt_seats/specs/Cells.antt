@@ -22,6 +22,13 @@ use Rattle.lwkt_seats.specs.declared.answers.RowRestored.TheVariants as restored
 abbrev pub HasCell : CpuSeat → ℕ → ℕ → Type 0
 HasCell s tok cell = IsThere s tok × (cell < (plan_of (bank_of s) tok).cells)
 
+-- it has none, or there is no such token
+abbrev pub Lacks : ℕ → ℕ → CpuSeat → Loaded → Type 0
+Lacks tok cell s loaded.NoToken = IsMissing s tok
+Lacks tok cell s loaded.NoCell = IsThere s tok × ((plan_of (bank_of s) tok).cells ≤ cell)
+Lacks tok cell s loaded.NotHeld = ⊥
+Lacks tok cell s (loaded.Value value) = ⊥
+
 -- the token isn't held, is held shared, is held exclusively
 abbrev pub IsUnheld : CpuSeat → ℕ → Type 0
 IsUnheld s tok = is_held (holding s tok) ≡ false

@@ -1,12 +1,35 @@
 //! The cells of a token that a seat holds.
-ghost use Rattle.std.specs.Prelude.{◌≡◌, ◌<◌};
+ghost use Rattle.std.specs.Prelude.{◌≡◌, ◌<◌, IfOk, IfErr};
 ghost use Rattle.lwkt_bank.specs.Seats.{id_of, bank_of};
-ghost use Rattle.lwkt_seats.specs.Cells.{Loads, StoresInCell, AddsToCell, JudgesToken, Restores};
+ghost use Rattle.lwkt_seats.specs.Cells.{HasCell, Lacks, Loads, StoresInCell, AddsToCell, JudgesToken, Restores};
 ghost use Rattle.lwkt_seats.specs.Brief.{KeepsBankAndCpu};
 
 use crate::answers::{Added, Judged, Loaded, RowRestored, Stored};
 use lwkt_bank::{Bank, CpuSeat};
 use lwkt_base::{Fault, TokId};
+
+/// The token and the cell of these numbers, or that there is none.
+#[inline(always)]
+pub(crate) fn find(
+    seat: &CpuSeat,
+    bank: &Bank,
+    token: u32,
+    cell: u32,
+) -> Result<(TokId, u8), Loaded>
+    requires of { bank_of seat.now ≡ id_of bank.now }
+    ensures there { IfOk result (λ _. HasCell seat.now token cell) }
+    ensures named { IfOk result (λ found. (found.0.0 ≡ token) × (found.1 ≡ cell)) }
+    ensures err { IfErr result (λ lack. Lacks token cell seat.now lack) }
+{
+    if token as usize >= bank.tokens() {
+        return Err(Loaded::NoToken);
+    }
+    let tok = TokId(token as u8);
+    if cell as usize >= bank.cells(tok) {
+        return Err(Loaded::NoCell);
+    }
+    Ok((tok, cell as u8))
+}
 
 /// The value of a cell.
 pub(crate) fn load(seat: &mut CpuSeat, bank: &Bank, token: u32, cell: u32) -> Loaded
@@ -28,6 +51,7 @@ pub(crate) fn load(seat: &mut CpuSeat, bank: &Bank, token: u32, cell: u32) -> Lo
 }
 
 /// Stores a value in a cell.
+#[inline(always)]
 pub(crate) fn store(seat: &mut CpuSeat, bank: &Bank, token: u32, cell: u32, value: u64) -> Stored
     requires of { bank_of seat.old ≡ id_of bank.now }
     ensures does { StoresInCell token cell value seat.old seat.new result }

@@ -23,6 +23,7 @@ mod record_calls;
 mod records;
 mod references;
 mod resumes;
+mod section_calls;
 mod sitters;
 mod taken;
 mod tokens;
@@ -40,6 +41,7 @@ pub use handles::{LwktBank, LwktHeld};
 pub use list_calls::{lwkt_block, lwkt_resume};
 pub use record_calls::{lwkt_read_record, lwkt_write_record};
 pub use references::LwktReference;
+pub use section_calls::{lwkt_store_give, lwkt_take_load};
 pub use tokens::LwktToken;
 pub use word_calls::{
     lwkt_word_again, lwkt_word_give_clean, lwkt_word_give_one, lwkt_word_give_written,

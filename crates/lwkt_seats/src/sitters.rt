@@ -1,5 +1,5 @@
 //! A seat with its bank, as it rests between calls, and what the calls do to it.
-ghost use Rattle.std.specs.Prelude.{◌≡◌, true, false};
+ghost use Rattle.std.specs.Prelude.{◌≡◌, ◌≢◌, true, false};
 ghost use Rattle.std.specs.Arc.{arc_value};
 ghost use Rattle.std.proofs.Props.{props};
 ghost use Rattle.lwkt_bank.specs.Seats.{id_of, bank_of, references};
@@ -33,7 +33,10 @@ pub struct Sitter {
 impl Sitter {
     ghost use Rattle.lwkt_base.specs.declared.names.Mode.TheVariants.{Exclusive, Shared};
     ghost use Rattle.lwkt_seats.specs.Asks.{AsksFor, Furthers, MarksToken, GivesToken};
-    ghost use Rattle.lwkt_seats.specs.Cells.{Loads, StoresInCell, AddsToCell, JudgesToken, Restores};
+    ghost use Rattle.lwkt_base.specs.Holding.{is_held};
+    ghost use Rattle.lwkt_bank.specs.Seats.{holding};
+    ghost use Rattle.lwkt_seats.specs.Calls.{TakesAndLoads, StoresAndGives};
+    ghost use Rattle.lwkt_seats.specs.Cells.{HasCell, Loads, StoresInCell, AddsToCell, JudgesToken, Restores};
     ghost use Rattle.lwkt_seats.specs.Records.{ReadsBytes, WritesBytes};
     ghost use Rattle.lwkt_seats.specs.Lists.{ResumesSeat, BlocksSeat};
     ghost use Rattle.lwkt_seats.specs.Seated.{StaysSeated};
@@ -101,12 +104,56 @@ impl Sitter {
         cells::load(&mut self.seat, &self.bank, token, cell)
     }
 
+    // The value of a cell that is there, of a token that the seat holds.
+    #[inline(always)]
+    fn load_held(&mut self, tok: TokId, cell: u8) -> u64
+        requires there { HasCell self.old.seat tok.0 cell }
+        requires held { is_held (holding self.old.seat tok.0) ≡ true }
+        ensures does { Loads tok.0 cell self.old.seat self.new.seat (Loaded.Value result) }
+        ensures same { StaysSeated self.old self.new }
+    {
+        self.seat.load(&self.bank, tok, cell)
+    }
+
     /// Stores a value in a cell.
+    #[inline(always)]
     pub(crate) fn store(&mut self, token: u32, cell: u32, value: u64) -> Stored
         ensures does { StoresInCell token cell value self.old.seat self.new.seat result }
         ensures same { StaysSeated self.old self.new }
     {
         cells::store(&mut self.seat, &self.bank, token, cell, value)
+    }
+
+    /// Asks for an exclusive reference, and loads a cell, which is looked up first. It answers the number of what comes of it.
+    #[inline(always)]
+    pub(crate) fn take_load(&mut self, token: u32, cell: u32, value: &mut u64) -> u32
+        ensures does { TakesAndLoads token cell value.old value.new self.old.seat self.new.seat result }
+        ensures same { StaysSeated self.old self.new }
+        ensures kept { result ≢ 0 → value.new ≡ value.old }
+    {
+        let (tok, place) = match cells::find(&self.seat, &self.bank, token, cell) {
+            Ok(found) => found,
+            Err(lack) => return lack.number(),
+        };
+        let asked = self.ask(token, Mode::Exclusive).number();
+        if asked != 0 {
+            return asked;
+        }
+        *value = self.load_held(tok, place);
+        0
+    }
+
+    /// Stores a value in a cell, and if it is stored gives a reference back. It answers the number of what comes of it.
+    #[inline(always)]
+    pub(crate) fn store_give(&mut self, token: u32, cell: u32, value: u64) -> u32
+        ensures does { StoresAndGives token cell value self.old.seat self.new.seat result }
+        ensures same { StaysSeated self.old self.new }
+    {
+        let stored = self.store(token, cell, value).number();
+        if stored != 0 {
+            return stored;
+        }
+        self.give(token).number()
     }
 
     /// Adds to the cell of a Tally token.
