@@ -62,9 +62,7 @@ static void by_mutex(void) {
 
 static void by_bank(void) {
     uint64_t found;
-    if (lwkt_take(bank, 0, 0) != 0 || lwkt_load(bank, 0, 0, 0, &found) != 0 || lwkt_store(bank, 0, 0, 0, found + 1) != 0 ||
-        lwkt_give(bank, 0, 0) != 0)
-        stop();
+    if (lwkt_take_load(bank, 0, 0, 0, &found) != 0 || lwkt_store_give(bank, 0, 0, 0, found + 1) != 0) stop();
 }
 
 static void by_bank_around(void) {

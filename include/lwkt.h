@@ -227,9 +227,9 @@ uint32_t lwkt_word_give_written(uint64_t word, uint64_t *next);
 //     56 the bank is open
 //
 // Of several that apply a function's list says which one comes: the one that stands first. Where a call is refused, nothing has
-// changed that a later call could tell, but that the seat may have looked at the token's word, loaded its row or read its record. Two
-// calls differ: `lwkt_block` gives all up where it answers 19, and `lwkt_resume` has held the references in front of one that it missed
-// for a while, so that the mark of a token among them that it held exclusively is cleared.
+// changed that a later call could tell, but that the seat may have looked at the token's word, loaded its row or read its record. Three
+// calls differ: `lwkt_block` gives all up where it answers 19, `lwkt_store_give` has stored the value there, and `lwkt_resume` has held the
+// references in front of one that it missed for a while, so that the mark of a token among them that it held exclusively is cleared.
 //
 // Each call on a bank answers 52 where the bank is closed, in place of what its list says; but 30 stays 30. Each call on a seat that was
 // given up as lost answers 54, in place of 50. A bank of zeros, as `(lwkt_bank){0}`, is no bank: each call on it answers 52.
@@ -368,6 +368,15 @@ uint32_t lwkt_load(lwkt_bank bank, uint32_t seat, uint32_t token, uint32_t cell,
 // Stores a value in a cell of a token that the seat holds exclusively. Refused with 30, 50, 16, 17, 13, 18; with 22 under
 // LWKT_LAW_TALLY.
 uint32_t lwkt_store(lwkt_bank bank, uint32_t seat, uint32_t token, uint32_t cell, uint64_t value);
+
+// Asks for an exclusive reference as `lwkt_take`, and loads a cell as `lwkt_load`, faster than both. The cell is looked up first. With
+// another status than 0 `value` stays as it was. Refused with 30, 50, 16, 17, 10, 11; and where the seat doesn't hold the token, with
+// 20, 23 or 34.
+uint32_t lwkt_take_load(lwkt_bank bank, uint32_t seat, uint32_t token, uint32_t cell, uint64_t *value) LWKT_MUST_USE;
+
+// Stores a value as `lwkt_store`, and where that answers 0 gives a reference back as `lwkt_give`, faster than both. Refused with 30, 50,
+// 16, 17, 13, 18; with 22 under LWKT_LAW_TALLY; and with 19 as `lwkt_give`: the value is stored then, and the token stays held.
+uint32_t lwkt_store_give(lwkt_bank bank, uint32_t seat, uint32_t token, uint32_t cell, uint64_t value) LWKT_MUST_USE;
 
 // Adds to the cell of a token under LWKT_LAW_TALLY that the seat holds exclusively, and stores the new value in `value`, which with
 // another status than 0 stays as it was. Refused with 30, 50, 16, 13, 18; with 22 under any other law; with 21.

@@ -32,10 +32,19 @@ static inline uint32_t lwkt_sanitized_share(lwkt_bank bank, uint32_t seat, uint3
     return lwkt_sanitized_taken(lwkt_share(bank, seat, token), bank, token);
 }
 
+static inline uint32_t lwkt_sanitized_take_load(lwkt_bank bank, uint32_t seat, uint32_t token, uint32_t cell, uint64_t *value) {
+    return lwkt_sanitized_taken(lwkt_take_load(bank, seat, token, cell, value), bank, token);
+}
+
 // Told before the call: behind it another thread may have taken the token.
 static inline uint32_t lwkt_sanitized_give(lwkt_bank bank, uint32_t seat, uint32_t token) {
     __tsan_release(lwkt_sanitized_token(bank, token));
     return lwkt_give(bank, seat, token);
+}
+
+static inline uint32_t lwkt_sanitized_store_give(lwkt_bank bank, uint32_t seat, uint32_t token, uint32_t cell, uint64_t value) {
+    __tsan_release(lwkt_sanitized_token(bank, token));
+    return lwkt_store_give(bank, seat, token, cell, value);
 }
 
 static inline uint32_t lwkt_sanitized_resume(lwkt_bank bank, uint32_t seat, const lwkt_reference *list, size_t count, size_t *missed) {
@@ -57,6 +66,8 @@ static inline uint32_t lwkt_sanitized_block(lwkt_bank bank, uint32_t seat, uint3
 #define lwkt_take lwkt_sanitized_take
 #define lwkt_share lwkt_sanitized_share
 #define lwkt_give lwkt_sanitized_give
+#define lwkt_take_load lwkt_sanitized_take_load
+#define lwkt_store_give lwkt_sanitized_store_give
 #define lwkt_resume lwkt_sanitized_resume
 #define lwkt_block lwkt_sanitized_block
 

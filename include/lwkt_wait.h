@@ -224,6 +224,8 @@ LWKT_WAIT_MINE(mark, (lwkt_bank bank, uint32_t seat, uint32_t token), (bank, sea
 LWKT_WAIT_MINE(give, (lwkt_bank bank, uint32_t seat, uint32_t token), (bank, seat, token))
 LWKT_WAIT_MINE(load, (lwkt_bank bank, uint32_t seat, uint32_t token, uint32_t cell, uint64_t *value), (bank, seat, token, cell, value))
 LWKT_WAIT_MINE(store, (lwkt_bank bank, uint32_t seat, uint32_t token, uint32_t cell, uint64_t value), (bank, seat, token, cell, value))
+LWKT_WAIT_MINE(take_load, (lwkt_bank bank, uint32_t seat, uint32_t token, uint32_t cell, uint64_t *value), (bank, seat, token, cell, value))
+LWKT_WAIT_MINE(store_give, (lwkt_bank bank, uint32_t seat, uint32_t token, uint32_t cell, uint64_t value), (bank, seat, token, cell, value))
 LWKT_WAIT_MINE(add, (lwkt_bank bank, uint32_t seat, uint32_t token, uint64_t amount, uint64_t *value), (bank, seat, token, amount, value))
 LWKT_WAIT_MINE(lawful, (lwkt_bank bank, uint32_t seat, uint32_t token), (bank, seat, token))
 LWKT_WAIT_MINE(restore, (lwkt_bank bank, uint32_t seat, uint32_t token), (bank, seat, token))
@@ -234,6 +236,8 @@ LWKT_WAIT_MINE(block, (lwkt_bank bank, uint32_t seat, uint32_t *restored), (bank
 #undef lwkt_take
 #undef lwkt_share
 #undef lwkt_give
+#undef lwkt_take_load
+#undef lwkt_store_give
 #undef lwkt_resume
 #undef lwkt_block
 #define lwkt_take lwkt_wait_my_take
@@ -243,6 +247,8 @@ LWKT_WAIT_MINE(block, (lwkt_bank bank, uint32_t seat, uint32_t *restored), (bank
 #define lwkt_give lwkt_wait_my_give
 #define lwkt_load lwkt_wait_my_load
 #define lwkt_store lwkt_wait_my_store
+#define lwkt_take_load lwkt_wait_my_take_load
+#define lwkt_store_give lwkt_wait_my_store_give
 #define lwkt_add lwkt_wait_my_add
 #define lwkt_lawful lwkt_wait_my_lawful
 #define lwkt_restore lwkt_wait_my_restore

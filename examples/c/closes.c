@@ -74,6 +74,7 @@ static int answers_closed(lwkt_bank bank, uint32_t seats) {
     for (uint32_t seat = 0; seat < seats; seat += 1) {
         good = good && lwkt_take(bank, seat, ANY) == 52 && lwkt_share(bank, seat, TOKENS) == 52 && lwkt_again(bank, seat, ANY) == 52 && lwkt_mark(bank, seat, ANY) == 52;
         good = good && lwkt_give(bank, seat, ANY) == 52 && lwkt_load(bank, seat, ANY, 0, &value) == 52 && lwkt_store(bank, seat, ANY, 0, 1) == 52;
+        good = good && lwkt_take_load(bank, seat, ANY, 0, &value) == 52 && lwkt_store_give(bank, seat, ANY, 0, 1) == 52;
         good = good && lwkt_add(bank, seat, TALLY, 1, &value) == 52 && lwkt_lawful(bank, seat, ANY) == 52 && lwkt_restore(bank, seat, ANY) == 52;
         good = good && lwkt_read_record(bank, seat, NOTE, bytes, sizeof bytes, &size) == 52 && lwkt_write_record(bank, seat, NOTE, bytes, 1) == 52;
         good = good && lwkt_resume(bank, seat, &list, 1, &size) == 52 && lwkt_block(bank, seat, &restored) == LWKT_BANK_CLOSED;

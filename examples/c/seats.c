@@ -40,6 +40,13 @@ static uint32_t take(uint32_t seat, uint32_t tok) {
     return status;
 }
 
+// The same with the value of its first cell.
+static uint32_t take_load(uint32_t seat, uint32_t tok, uint64_t *value) {
+    uint32_t status;
+    while ((status = lwkt_take_load(bank, seat, tok, 0, value)) == LWKT_BUSY || status == LWKT_RACE) sched_yield();
+    return status;
+}
+
 typedef struct {
     uint32_t seat;
     int good;
@@ -66,10 +73,10 @@ static void *work(void *told) {
     for (int i = 0; i < ROUNDS; i += 1) {
         int good = take(mine->seat, TALLY) == 0 && lwkt_add(bank, mine->seat, TALLY, 1, &value) == 0 && lwkt_give(bank, mine->seat, TALLY) == 0;
         if (i % 100 == 0) {
-            good = good && take(mine->seat, SUM) == 0 && lwkt_load(bank, mine->seat, SUM, 0, &first) == 0 && lwkt_load(bank, mine->seat, SUM, 1, &second) == 0;
+            good = good && take_load(mine->seat, SUM, &first) == 0 && lwkt_load(bank, mine->seat, SUM, 1, &second) == 0;
             good = good && first + second == 1000000 && lwkt_store(bank, mine->seat, SUM, 0, first - 1) == 0;
             good = good && lwkt_lawful(bank, mine->seat, SUM) == 19 && lwkt_give(bank, mine->seat, SUM) == 19;
-            good = good && lwkt_store(bank, mine->seat, SUM, 1, second + 1) == 0 && lwkt_give(bank, mine->seat, SUM) == 0 && rewrite(mine->seat);
+            good = good && lwkt_store_give(bank, mine->seat, SUM, 1, second + 1) == 0 && rewrite(mine->seat);
         }
         mine->good = mine->good && good;
     }
@@ -145,6 +152,30 @@ static void numbers(void) {
     count(all && lwkt_give(bank, 3, ANY) == 13, "all are given back");
     count(lwkt_take(bank, 0, ORDER) == 0 && lwkt_store(bank, 0, ORDER, 0, 9) == 0 && lwkt_give(bank, 0, ORDER) == 19 && lwkt_restore(bank, 0, ORDER) == 0, "restored");
     count(lwkt_load(bank, 0, ORDER, 0, &value) == 0 && value == 1 && lwkt_give(bank, 0, ORDER) == 0, "the first row is there again");
+}
+
+// Two things in one call: as the two calls one after the other.
+static void both_at_once(void) {
+    uint64_t value = 77;
+    count(lwkt_take_load(bank, 4, ANY, 0, &value) == 30 && lwkt_store_give(bank, 4, ANY, 0, 1) == 30, "no such seat");
+    count(lwkt_take_load(bank, 0, TOKENS, 9, &value) == 16 && lwkt_take_load(bank, 0, 256, 0, &value) == 16 && lwkt_store_give(bank, 0, TOKENS, 9, 1) == 16, "no such token");
+    count(lwkt_take_load(bank, 0, ANY, 1, &value) == 17 && lwkt_take_load(bank, 0, ANY, 256, &value) == 17 && lwkt_store_give(bank, 0, ANY, 1, 1) == 17, "no such cell");
+    count(value == 77 && lwkt_give(bank, 0, ANY) == 13 && lwkt_store_give(bank, 0, ANY, 0, 1) == 13, "nothing was taken");
+    count(lwkt_share(bank, 0, ANY) == 0 && lwkt_take_load(bank, 0, ANY, 0, &value) == 11 && lwkt_store_give(bank, 0, ANY, 0, 1) == 18, "held shared");
+    count(lwkt_take_load(bank, 1, ANY, 0, &value) == 23 && lwkt_take_load(bank, 1, ANY, 1, &value) == 17 && value == 77, "another seat holds it");
+    count(lwkt_give(bank, 0, ANY) == 0 && lwkt_take_load(bank, 0, ANY, 0, &value) == 0 && value == 0, "a token is taken, and its cell loaded");
+    count(lwkt_store_give(bank, 0, ANY, 1, 5) == 17 && lwkt_take_load(bank, 0, ANY, 0, &value) == 0 && value == 0, "a further reference");
+    count(lwkt_store_give(bank, 0, ANY, 0, 5) == 0 && lwkt_load(bank, 0, ANY, 0, &value) == 0 && value == 5, "stored, and one reference given back");
+    count(lwkt_store_give(bank, 0, ANY, 0, 0) == 0 && lwkt_give(bank, 0, ANY) == 13, "stored, and the last one given back");
+    count(lwkt_take_load(bank, 1, TALLY, 0, &value) == 0 && lwkt_store_give(bank, 1, TALLY, 0, 6) == 22 && lwkt_give(bank, 1, TALLY) == 0, "a store in a tally");
+    count(lwkt_take_load(bank, 1, ORDER, 1, &value) == 0 && value == 2 && lwkt_store_give(bank, 1, ORDER, 0, 9) == 19, "the law is broken");
+    count(lwkt_load(bank, 1, ORDER, 0, &value) == 0 && value == 9 && lwkt_take(bank, 0, ORDER) == 23, "it is stored, and the token held");
+    count(lwkt_store_give(bank, 1, ORDER, 0, 1) == 0 && lwkt_take_load(bank, 0, ORDER, 0, &value) == 0 && value == 1, "stored again, and given back");
+    int all = lwkt_give(bank, 0, ORDER) == 0;
+    for (int i = 0; i < 32; i += 1) all = all && lwkt_take_load(bank, 3, ANY, 0, &value) == 0;
+    count(all && lwkt_take_load(bank, 3, ORDER, 0, &value) == 10 && lwkt_take_load(bank, 3, ORDER, 2, &value) == 17 && value == 0, "32 references");
+    for (int i = 0; i < 32; i += 1) all = all && lwkt_store_give(bank, 3, ANY, 0, 0) == 0;
+    count(all && lwkt_give(bank, 3, ANY) == 13, "all are given back");
 }
 
 // Whether the record of a token that the seat holds is this text.
@@ -304,6 +335,7 @@ int main(void) {
         sections();
         one_seat();
         numbers();
+        both_at_once();
         refused_records();
         records();
         lists();

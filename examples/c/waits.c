@@ -200,6 +200,7 @@ static void *call_on_another(void *told) {
     lwkt_reference list = {LEFT, LWKT_EXCLUSIVE};
     mine->good = lwkt_take(seating.bank, seat, LEFT) == 51 && lwkt_share(seating.bank, seat, LEFT) == 51 && lwkt_again(seating.bank, seat, LEFT) == 51;
     mine->good = mine->good && lwkt_give(seating.bank, seat, LEFT) == 51 && lwkt_load(seating.bank, seat, LEFT, 0, &value) == 51 && value == 77;
+    mine->good = mine->good && lwkt_take_load(seating.bank, seat, LEFT, 0, &value) == 51 && lwkt_store_give(seating.bank, seat, LEFT, 0, 1) == 51 && value == 77;
     mine->good = mine->good && lwkt_resume(seating.bank, seat, &list, 1, &missed) == 51 && missed == 77 && lwkt_block(seating.bank, seat, &restored) == 51;
     mine->good = mine->good && lwkt_mark(seating.bank, seat, LEFT) == 51 && lwkt_leave(&seating, seat, &parking) == 51;
     return NULL;

@@ -24,6 +24,8 @@ extern "C" {
     fn lwkt_give(bank: Handle, seat: u32, token: u32) -> u32;
     fn lwkt_load(bank: Handle, seat: u32, token: u32, cell: u32, value: *mut u64) -> u32;
     fn lwkt_store(bank: Handle, seat: u32, token: u32, cell: u32, value: u64) -> u32;
+    fn lwkt_take_load(bank: Handle, seat: u32, token: u32, cell: u32, value: *mut u64) -> u32;
+    fn lwkt_store_give(bank: Handle, seat: u32, token: u32, cell: u32, value: u64) -> u32;
     fn lwkt_add(bank: Handle, seat: u32, token: u32, amount: u64, value: *mut u64) -> u32;
     fn lwkt_lawful(bank: Handle, seat: u32, token: u32) -> u32;
     fn lwkt_restore(bank: Handle, seat: u32, token: u32) -> u32;
@@ -411,6 +413,13 @@ impl Seat {
         Ok(Held { seat: self, token })
     }
 
+    /// Takes a token exclusively and loads a cell, without waiting; faster than [`take`](Seat::take) and [`load`](Held::load).
+    pub fn take_load(&self, token: u32, cell: u32) -> Result<(Held<'_>, u64), SeatFault> {
+        let mut value = 0;
+        done(unsafe { lwkt_take_load(self.handle, self.number, token, cell, &mut value) })?;
+        Ok((Held { seat: self, token }, value))
+    }
+
     /// Takes a token exclusively, and sleeps while another seat has it. Who comes first gets it, also before those that wait.
     pub fn take_waiting(&self, token: u32) -> Result<Held<'_>, SeatFault> {
         self.whole.wait(token, false, || unraced(|| self.take(token)))
@@ -615,6 +624,15 @@ impl<'a> Held<'a> {
         let given = self.give_or_restore();
         std::mem::forget(self);
         given
+    }
+
+    /// Stores a value in a cell and gives the reference back, faster than [`store`](Held::store) and [`give`](Held::give). Where it is
+    /// refused the reference is given back too; with 19 as there.
+    pub fn store_give(self, cell: u32, value: u64) -> Result<(), SeatFault> {
+        done(unsafe { lwkt_store_give(self.seat.handle, self.seat.number, self.token, cell, value) })?;
+        let given = std::mem::ManuallyDrop::new(self);
+        given.seat.whole.wake(given.token);
+        Ok(())
     }
 
     fn give_or_restore(&self) -> Result<(), SeatFault> {

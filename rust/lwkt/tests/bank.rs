@@ -86,6 +86,9 @@ fn what_is_not_there_is_refused() {
     assert_eq!(refused(seat.take_waiting(u32::MAX)), 16);
     assert_eq!(refused(seat.share(TOKENS)), 16);
     assert_eq!(refused(seat.mark(TOKENS)), 16);
+    assert_eq!(refused(seat.take_load(TOKENS, 0)), 16);
+    assert_eq!(refused(seat.take_load(ANY, 1)), 17);
+    assert_eq!(refused(seat.take(ANY).unwrap().store_give(1, 1)), 17);
     let held = seat.take(ANY).unwrap();
     assert_eq!(refused(held.load(1)), 17);
     assert_eq!(refused(held.store(256, 1)), 17);
@@ -106,7 +109,11 @@ fn what_the_holding_forbids_is_refused() {
     assert_eq!(refused(held.is_lawful()), 18);
     assert_eq!(refused(held.restore()), 18);
     assert_eq!(refused(other.take(ANY)), 23);
-    held.give().unwrap();
+    assert_eq!(refused(other.take_load(ANY, 0)), 23);
+    assert_eq!(refused(held.store_give(0, 1)), 18);
+    let (held, value) = seat.take_load(ANY, 0).unwrap();
+    held.store_give(0, value + 8).unwrap();
+    assert_eq!(other.take_load(ANY, 0).unwrap().1, 8);
     assert_eq!(refused(seat.take(ANY).unwrap().add(1)), 22);
     let tally = seat.take(TALLY).unwrap();
     assert_eq!(refused(tally.store(0, 1)), 22);
@@ -153,6 +160,7 @@ fn a_row_that_breaks_its_law_is_the_first_row_again() {
     let held = seat.take(ORDER).unwrap();
     held.store(0, 9).unwrap();
     assert_eq!(refused(held.give()), 19);
+    assert_eq!(refused(seat.take_load(ORDER, 0).unwrap().0.store_give(0, 9)), 19);
     seat.take(ORDER).unwrap().store(0, 9).unwrap();
     assert_eq!(seat.share(ORDER).unwrap().load(0), Ok(1));
     let held = seat.take(ORDER).unwrap();
