@@ -108,13 +108,27 @@ abbrev pub record_json : Option (List ℕ) → List ℕ
 record_json None = []
 record_json (Some blob) = codes ",\"record\":\"" ++ record_text blob ++ codes "\""
 
+-- the begin of a token, up to its cells
+abbrev pub token_begun : Option Telling → ℕ → TokenLine → List ℕ
+token_begun telling tok line = codes "{\"token\":" ++ token_named telling tok ++ codes ",\"gen\":" ++ decimal line.generation ++ codes ",\"cells\":"
+
+-- its end, behind its cells
+abbrev pub token_ended : TokenLine → List ℕ
+token_ended line = tally_json line.tallies ++ record_json line.blob ++ codes "}"
+
 abbrev pub token_json : Option Telling → ℕ → TokenLine → List ℕ
-token_json telling tok line =
-    codes "{\"token\":" ++ token_named telling tok ++ codes ",\"gen\":" ++ decimal line.generation ++ codes ",\"cells\":" ++ cells_json telling tok line.cells ++ tally_json line.tallies ++ record_json line.blob ++ codes "}"
+token_json telling tok line = token_begun telling tok line ++ cells_json telling tok line.cells ++ token_ended line
+
+-- the begin of a message, with its name
+abbrev pub message_begun : Option Telling → ℕ → List ℕ
+message_begun telling message = codes "{\"message\":" ++ message_named telling message
+
+-- what stands behind it: the round, and where the message is
+abbrev pub message_ended : MsgEnd → List ℕ
+message_ended end = codes ",\"round\":" ++ (decimal end.round ++ (codes ",\"state\":\"" ++ (owner_text end.state ++ codes "\"}")))
 
 abbrev pub message_json : Option Telling → ℕ → MsgEnd → List ℕ
-message_json telling message end =
-    codes "{\"message\":" ++ message_named telling message ++ codes ",\"round\":" ++ decimal end.round ++ codes ",\"state\":\"" ++ owner_text end.state ++ codes "\"}"
+message_json telling message end = message_begun telling message ++ message_ended end
 
 -- what a thread is doing, and the number of the fault that ended it
 abbrev pub state_json : ThreadState → List ℕ
@@ -135,11 +149,15 @@ ref_json telling n r = codes "{\"token\":" ++ token_named telling r.tok.0 ++ cod
 abbrev pub call_json : Call → List ℕ
 call_json call = codes ",\"op\":" ++ decimal call.op ++ codes ",\"arg\":" ++ decimal call.arg ++ codes "}"
 
+-- whether an abort was in time
+abbrev pub aborted_json : Bool → List ℕ
+aborted_json is = codes "{\"aborted\":" ++ bool_json is ++ codes "}"
+
 -- an entry of a log, by the word that a claim has for it
 abbrev pub entry_json : Option Telling → ℕ → Entry → List ℕ
 entry_json telling n (Value value) = codes "{\"saw\":" ++ decimal value ++ codes "}"
 entry_json telling n (Bytes blob) = codes "{\"found\":\"" ++ record_text blob ++ codes "\"}"
-entry_json telling n (Aborted is) = codes "{\"aborted\":" ++ bool_json is ++ codes "}"
+entry_json telling n (Aborted is) = aborted_json is
 entry_json telling n (Request message call) = codes "{\"took\":" ++ message_named telling message.0 ++ call_json call
 entry_json telling n (Reply message error outcome) =
     codes "{\"answered\":" ++ message_named telling message.0 ++ codes ",\"error\":" ++ decimal error ++ codes ",\"result\":" ++ decimal outcome ++ codes "}"
@@ -159,10 +177,18 @@ abbrev pub count_json : Tried → ℕ → List ℕ
 count_json (TriedStates states) count = []
 count_json (Orders orders) count = codes ",\"count\":" ++ decimal count
 
--- the tokens, messages and threads of a run, and the end of the object that they stand in
+-- the tokens of a run, its messages, and its threads, with the end of the object that they stand in
+abbrev pub token_part : Option Telling → Closing → List ℕ
+token_part telling closing = codes ",\"tokens\":[" ++ items_json (token_json telling) closing.tokens.items
+
+abbrev pub message_part : Option Telling → Closing → List ℕ
+message_part telling closing = codes "],\"messages\":[" ++ items_json (message_json telling) closing.messages.items
+
+abbrev pub thread_part : Option Telling → Closing → List ℕ
+thread_part telling closing = codes "],\"threads\":[" ++ items_json (thread_json telling) closing.threads.items ++ codes "]}"
+
 abbrev pub closing_json : Option Telling → Closing → List ℕ
-closing_json telling closing =
-    codes ",\"tokens\":[" ++ items_json (token_json telling) closing.tokens.items ++ codes "],\"messages\":[" ++ items_json (message_json telling) closing.messages.items ++ codes "],\"threads\":[" ++ items_json (thread_json telling) closing.threads.items ++ codes "]}"
+closing_json telling closing = token_part telling closing ++ message_part telling closing ++ thread_part telling closing
 
 -- outcome n: its kind, its order and how many turns that has, and its closing values
 abbrev pub outcome_json : Option Telling → Tried → List ℕ → ℕ → Outcome → List ℕ

@@ -2,7 +2,7 @@
 ghost use Rattle.std.specs.Prelude.{◌≡◌, ◌++◌, codes, OnOk, string_bytes};
 ghost use Rattle.std.specs.Option.{option_copied};
 ghost use Rattle.lwkt_report.specs.Report.{record_text};
-ghost use Rattle.lwkt_explore.specs.Jsons.{closing_json, items_json, cell_json, cells_json, tally_json, record_json, token_json, message_json, state_json, mode_json, ref_json, call_json, entry_json, thread_json};
+ghost use Rattle.lwkt_explore.specs.Jsons.{closing_json, token_part, message_part, thread_part, message_begun, message_ended, items_json, cell_json, cells_json, tally_json, record_json, token_begun, token_ended, token_json, message_json, state_json, mode_json, ref_json, call_json, aborted_json, entry_json, thread_json};
 
 use crate::forms::{Telling, owner_word};
 use crate::json_parts::{
@@ -81,6 +81,30 @@ fn add_record(out: &mut String, blob: &Option<Blob>) -> Result<(), OutOfMemory>
     }
 }
 
+// Appends the begin of a token, up to its cells.
+fn begin_token(
+    alloc: Global,
+    out: &mut String,
+    telling: Option<&Telling<'_>>,
+    tok: usize,
+    line: &TokenLine,
+) -> Result<(), OutOfMemory>
+    ensures { OnOk result (string_bytes out.new ≡ string_bytes out.old ++ token_begun (option_copied telling.entry) tok line.now) }
+{
+    push_str(out, "{\"token\":")?;
+    add_token_named(alloc, out, telling, tok)?;
+    put(out, (",\"gen\":", line.generation, ",\"cells\":"))
+}
+
+// Appends the end of a token, behind its cells.
+fn end_token(out: &mut String, line: &TokenLine) -> Result<(), OutOfMemory>
+    ensures { OnOk result (string_bytes out.new ≡ string_bytes out.old ++ token_ended line.now) }
+{
+    add_tally(out, &line.tallies)?;
+    add_record(out, &line.blob)?;
+    push_str(out, "}")
+}
+
 // Appends a token.
 fn add_token(
     alloc: Global,
@@ -91,13 +115,30 @@ fn add_token(
 ) -> Result<(), OutOfMemory>
     ensures { OnOk result (string_bytes out.new ≡ string_bytes out.old ++ token_json (option_copied telling.entry) tok line.now) }
 {
-    push_str(out, "{\"token\":")?;
-    add_token_named(alloc, out, telling, tok)?;
-    put(out, (",\"gen\":", line.generation, ",\"cells\":"))?;
+    begin_token(alloc, out, telling, tok, line)?;
     add_cells(alloc, out, telling, tok, &line.cells)?;
-    add_tally(out, &line.tallies)?;
-    add_record(out, &line.blob)?;
-    push_str(out, "}")
+    end_token(out, line)
+}
+
+// Appends the begin of a message, with its name.
+fn begin_message(
+    alloc: Global,
+    out: &mut String,
+    telling: Option<&Telling<'_>>,
+    message: usize,
+) -> Result<(), OutOfMemory>
+    ensures { OnOk result (string_bytes out.new ≡ string_bytes out.old ++ message_begun (option_copied telling.entry) message) }
+{
+    push_str(out, "{\"message\":")?;
+    add_message_named(alloc, out, telling, message)
+}
+
+// Appends what stands behind it: the round, and where the message is.
+fn end_message(out: &mut String, end: &MsgEnd) -> Result<(), OutOfMemory>
+    ensures { OnOk result (string_bytes out.new ≡ string_bytes out.old ++ message_ended end.now) }
+{
+    let (round, word) = (end.round, owner_word(end.state));
+    put(out, (",\"round\":", round, ",\"state\":\"", word, "\"}"))
 }
 
 // Appends a message.
@@ -110,10 +151,8 @@ fn add_message(
 ) -> Result<(), OutOfMemory>
     ensures { OnOk result (string_bytes out.new ≡ string_bytes out.old ++ message_json (option_copied telling.entry) message end.now) }
 {
-    push_str(out, "{\"message\":")?;
-    add_message_named(alloc, out, telling, message)?;
-    let (round, word) = (end.round, owner_word(end.state));
-    put(out, (",\"round\":", round, ",\"state\":\"", word, "\"}"))
+    begin_message(alloc, out, telling, message)?;
+    end_message(out, end)
 }
 
 // Appends what a thread is doing.
@@ -186,6 +225,13 @@ fn add_found(out: &mut String, blob: &Blob) -> Result<(), OutOfMemory>
     push_str(out, "\"}")
 }
 
+// Appends whether an abort was in time.
+fn add_aborted(out: &mut String, is_so: bool) -> Result<(), OutOfMemory>
+    ensures { OnOk result (string_bytes out.new ≡ string_bytes out.old ++ aborted_json is_so) }
+{
+    put(out, ("{\"aborted\":", bool_word(is_so), "}"))
+}
+
 // Appends an entry of a log.
 fn add_entry(
     alloc: Global,
@@ -199,7 +245,7 @@ fn add_entry(
     match entry {
         Entry::Value(value) => put(out, ("{\"saw\":", *value, "}")),
         Entry::Bytes(blob) => add_found(out, blob),
-        Entry::Aborted(is_so) => put(out, ("{\"aborted\":", bool_word(*is_so), "}")),
+        Entry::Aborted(is_so) => add_aborted(out, *is_so),
         Entry::Request(message, call) => {
             push_str(out, "{\"took\":")?;
             add_message_named(alloc, out, telling, message.0 as usize)?;
@@ -306,6 +352,46 @@ fn add_threads(
     Ok(())
 }
 
+// Appends the tokens of a run.
+fn add_token_part(
+    alloc: Global,
+    out: &mut String,
+    telling: Option<&Telling<'_>>,
+    closing: &Closing,
+) -> Result<(), OutOfMemory>
+    ensures { OnOk result (string_bytes out.new ≡ string_bytes out.old ++ token_part (option_copied telling.entry) closing.now) }
+{
+    push_str(out, ",\"tokens\":[")?;
+    add_tokens(alloc, out, telling, closing.tokens.as_slice())
+}
+
+// Appends its messages.
+fn add_message_part(
+    alloc: Global,
+    out: &mut String,
+    telling: Option<&Telling<'_>>,
+    closing: &Closing,
+) -> Result<(), OutOfMemory>
+    ensures { OnOk result (string_bytes out.new ≡ string_bytes out.old ++ message_part (option_copied telling.entry) closing.now) }
+{
+    push_str(out, "],\"messages\":[")?;
+    add_messages(alloc, out, telling, closing.messages.as_slice())
+}
+
+// Appends its threads.
+fn add_thread_part(
+    alloc: Global,
+    out: &mut String,
+    telling: Option<&Telling<'_>>,
+    closing: &Closing,
+) -> Result<(), OutOfMemory>
+    ensures { OnOk result (string_bytes out.new ≡ string_bytes out.old ++ thread_part (option_copied telling.entry) closing.now) }
+{
+    push_str(out, "],\"threads\":[")?;
+    add_threads(alloc, out, telling, closing.threads.as_slice())?;
+    push_str(out, "]}")
+}
+
 /// Appends the closing values of a run, and the end of the object that they stand in.
 pub(crate) fn add_closing(
     alloc: Global,
@@ -315,11 +401,7 @@ pub(crate) fn add_closing(
 ) -> Result<(), OutOfMemory>
     ensures { OnOk result (string_bytes out.new ≡ string_bytes out.old ++ closing_json (option_copied telling.entry) closing.now) }
 {
-    push_str(out, ",\"tokens\":[")?;
-    add_tokens(alloc, out, telling, closing.tokens.as_slice())?;
-    push_str(out, "],\"messages\":[")?;
-    add_messages(alloc, out, telling, closing.messages.as_slice())?;
-    push_str(out, "],\"threads\":[")?;
-    add_threads(alloc, out, telling, closing.threads.as_slice())?;
-    push_str(out, "]}")
+    add_token_part(alloc, out, telling, closing)?;
+    add_message_part(alloc, out, telling, closing)?;
+    add_thread_part(alloc, out, telling, closing)
 }
