@@ -231,10 +231,13 @@ abbrev pub witness_json : Option Outcome → List ℕ
 witness_json None = []
 witness_json (Some outcome) = codes ",\"order\":" ++ list_json number_json outcome.order.items
 
--- what a text says: its line, whether it is so, and the order of the outcome that decides it, if one does
+-- the line of what a text says, and whether it is so
+abbrev pub claim_begun : List ℕ → Option Closing → Found → Expectation → List ℕ
+claim_begun bytes rounds found e = codes "{\"line\":" ++ (decimal (line_of bytes e.at) ++ (codes ",\"verdict\":\"" ++ (truth_text (truth_over_orders rounds found e) ++ codes "\"")))
+
+-- the same, and the order of the outcome that decides it, if one does
 abbrev pub claim_json : List ℕ → Option Closing → Found → ℕ → Expectation → List ℕ
-claim_json bytes rounds found n e =
-    codes "{\"line\":" ++ decimal (line_of bytes e.at) ++ codes ",\"verdict\":\"" ++ truth_text (truth_over_orders rounds found e) ++ codes "\"" ++ witness_json (find (decides e) found.outcomes.all.items) ++ codes "}"
+claim_json bytes rounds found n e = claim_begun bytes rounds found e ++ (witness_json (find (decides e) found.outcomes.all.items) ++ codes "}")
 
 -- how many turns were tried, whether each order was, and each turn, and what ended the search
 abbrev pub extent_json : Found → List ℕ

@@ -1,7 +1,7 @@
 //! What is found, as one JSON object.
 ghost use Rattle.std.specs.Prelude.{◌≡◌, ◌++◌, IfOk, OnOk, string_bytes};
 ghost use Rattle.std.specs.Option.{option_copied};
-ghost use Rattle.lwkt_explore.specs.Jsons.{extent_json, items_json, count_json, outcome_json, lost_json, tried_json, bound_json, is_line_feed, feeds_in, line_of, witness_json, claim_json, finding_json};
+ghost use Rattle.lwkt_explore.specs.Jsons.{extent_json, items_json, count_json, outcome_json, lost_json, tried_json, bound_json, is_line_feed, feeds_in, line_of, witness_json, claim_begun, claim_json, finding_json};
 
 use crate::expectations::{deciding, truth_over_orders};
 use crate::extents::{Bound, Extent};
@@ -141,6 +141,21 @@ fn add_witness(out: &mut String, witness: Option<&Outcome>) -> Result<(), OutOfM
     add_turns(out, outcome.order.as_slice())
 }
 
+// Appends the line of what a text says, and whether it is so.
+fn begin_claim(
+    out: &mut String,
+    bytes: &[u8],
+    rounds: &Option<Closing>,
+    found: &Found,
+    expectation: &Expectation,
+) -> Result<(), OutOfMemory>
+    ensures { OnOk result (string_bytes out.new ≡ string_bytes out.old ++ claim_begun bytes.now rounds.now found.now expectation.now) }
+{
+    let line = line_of(bytes, expectation.at);
+    let words = words_of(truth_over_orders(expectation, rounds, found));
+    put(out, ("{\"line\":", line, ",\"verdict\":\"", words, "\""))
+}
+
 // Appends what a text says, and whether it is so.
 fn add_claim(
     out: &mut String,
@@ -152,17 +167,7 @@ fn add_claim(
 ) -> Result<(), OutOfMemory>
     ensures { OnOk result (string_bytes out.new ≡ string_bytes out.old ++ claim_json bytes.now rounds.now found.now n expectation.now) }
 {
-    let words = words_of(truth_over_orders(expectation, rounds, found));
-    put(
-        out,
-        (
-            "{\"line\":",
-            line_of(bytes, expectation.at),
-            ",\"verdict\":\"",
-            words,
-            "\"",
-        ),
-    )?;
+    begin_claim(out, bytes, rounds, found, expectation)?;
     add_witness(out, deciding(expectation, found.outcomes.all.as_slice()))?;
     push_str(out, "}")
 }

@@ -6,8 +6,8 @@ use Rattle.lwkt_explore.specs.Tries.{HasTriedStates}
 use Rattle.lwkt_script.specs.declared.scripts.Script.{Script}
 use Rattle.lwkt_search.specs.declared.searches.Outcome.{Outcome as Last}
 use Rattle.lwkt_explore.specs.declared.outcomes.Outcomes.{Outcomes}
-use Rattle.lwkt_explore.specs.Outcomes.{AreAlike, AreOnce, AreOutcomes, HasEnded, HasReport}
-use Rattle.lwkt_explore.specs.Searches.{AreShortest, IsLostAlong, NoneIsLost, StuckAt}
+use Rattle.lwkt_explore.specs.Outcomes.{AreAlike, AreOnce, AreOutcomes, AreShort, HasEnded, HasReport}
+use Rattle.lwkt_explore.specs.Searches.{AreShortest, IsLostAlong, IsSearched, NoneIsLost, StuckAt}
 use Rattle.lwkt_plain.specs.Deadlocks.{IsStandstill}
 use Rattle.lwkt_explore.proofs.ToldLemmas.{all_are_told}
 use Rattle.lwkt_explore.proofs.searches.ended.Goals as goal
@@ -108,3 +108,21 @@ compared-requires g c = record {
   are_outcomes = c.told_of.ensures.found;
   short = c.told_of.ensures.short;
 }
+
+pub returns-in-Some-clause-short : goal.returns-in-Some-clause-short
+returns-in-Some-clause-short g c = let F : Outcomes → Type 0 = AreShort c.args.task.now.turns in subst F (sym c.part_of.ensures.outcomes) c.compared.ensures.short
+
+pub returns-in-Some-bound_of-clause-short : goal.returns-in-Some-bound_of-clause-short
+returns-in-Some-bound_of-clause-short g c = let F : Outcomes → Type 0 = AreShort c.args.task.now.turns in subst F (sym c.part_of-in-Some-bound_of.ensures.outcomes) c.compared.ensures.short
+
+pub returns-in-Some-told-clause-short : goal.returns-in-Some-told-clause-short
+returns-in-Some-told-clause-short g c = let F : Outcomes → Type 0 = AreShort c.args.task.now.turns in subst F (sym c.part_of-in-Some-told.ensures.outcomes) c.compared.ensures.short
+
+pub returns-in-None-clause-short : goal.returns-in-None-clause-short
+returns-in-None-clause-short g c = let F : Outcomes → Type 0 = AreShort c.args.task.now.turns in subst F (sym c.whole_of.ensures.outcomes) c.compared.ensures.short
+
+pub whole_of-requires-clause-searched : goal.whole_of-requires-clause-searched
+whole_of-requires-clause-searched g c =
+    let task = c.args.task.now in
+    let F : Script → Type 0 = λ script. IsSearched script task.cpus task.turns task.bound c.args.found in
+    subst F (sym c.requires.script) c.requires.searched
