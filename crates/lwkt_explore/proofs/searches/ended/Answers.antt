@@ -6,7 +6,7 @@ use Rattle.lwkt_explore.specs.Tries.{HasTriedStates}
 use Rattle.lwkt_script.specs.declared.scripts.Script.{Script}
 use Rattle.lwkt_search.specs.declared.searches.Outcome.{Outcome as Last}
 use Rattle.lwkt_explore.specs.declared.outcomes.Outcomes.{Outcomes}
-use Rattle.lwkt_explore.specs.Outcomes.{AreAlike, AreOnce, AreOutcomes, AreShort, HasEnded, HasReport}
+use Rattle.lwkt_explore.specs.Outcomes.{AreAlike, AreOnce, AreOutcomes, AreShort, AreWhole, HasEnded, HasReport}
 use Rattle.lwkt_explore.specs.Searches.{AreShortest, IsLostAlong, IsSearched, NoneIsLost, StuckAt}
 use Rattle.lwkt_plain.specs.Deadlocks.{IsStandstill}
 use Rattle.lwkt_explore.proofs.ToldLemmas.{all_are_told}
@@ -126,3 +126,11 @@ whole_of-requires-clause-searched g c =
     let task = c.args.task.now in
     let F : Script → Type 0 = λ script. IsSearched script task.cpus task.turns task.bound c.args.found in
     subst F (sym c.requires.script) c.requires.searched
+
+pub returns-in-None-clause-whole : goal.returns-in-None-clause-whole
+returns-in-None-clause-whole g c = λ complete.
+    let unmet : c.bound_of.result ≡ None = search rules in
+    let met : c.args.found.growth.met ≡ None = c.bound_of.ensures.none unmet in
+    let same : c.compared.new.outcomes ≡ c.told_of.new.outcomes = c.in_ok-bound.ensures.same (search rules) in
+    let G : Outcomes → Type 0 = AreWhole in
+    subst G (sym (c.whole_of.ensures.outcomes ∙ same)) (c.in_ok-told.ensures.whole c.in-None.is met)
