@@ -60,7 +60,14 @@ fn text_in_layout(
 {
     match layout {
         Layout::Lines => text_in(alloc, telling, found),
-        Layout::Json => json_of(alloc, telling, bytes, input.expectations.as_slice(), rounds, found),
+        Layout::Json => json_of(
+            alloc,
+            telling,
+            bytes,
+            input.expectations.as_slice(),
+            rounds,
+            found,
+        ),
     }
 }
 

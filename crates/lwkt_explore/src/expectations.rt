@@ -69,8 +69,8 @@ fn is_left_open(expectation: &Expectation, outcomes: &[Outcome]) -> bool
 }
 
 /// The first outcome that decides an expectation: that breaks an `always` or a `never`, or shows a `sometimes`. One that was cut
-/// decides nothing, and none decides what is said of the run in rounds. `None` if there is no such outcome. Among the outcomes of a search, which come by the length of their orders,
-/// no other such one has a shorter order.
+/// decides nothing, and none decides what is said of the run in rounds. `None` if there is no such outcome. Among the outcomes of a
+/// search, which come by the length of their orders, no other such one has a shorter order.
 pub fn deciding<'a>(expectation: &Expectation, outcomes: &'a [Outcome]) -> Option<&'a Outcome>
     ensures { option_copied result ≡ find (decides expectation.now) outcomes.now }
 {

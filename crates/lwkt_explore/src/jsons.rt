@@ -226,7 +226,7 @@ pub fn json_of(
     rounds: &Option<Closing>,
     found: &Found,
 ) -> Result<String, OutOfMemory>
-    ensures { IfOk result (λ text. string_bytes text ≡ finding_json (option_copied telling.entry) bytes.now expectations.now found.now) }
+    ensures { IfOk result (λ text. string_bytes text ≡ finding_json (option_copied telling.entry) bytes.now expectations.now rounds.now found.now) }
 {
     let mut out = String::new(alloc);
     let outcomes = &found.outcomes;
