@@ -63,10 +63,10 @@ async function tryCourse(tab, name) {
   same(await value(tab, "script"), script, `${name}: its text is in the editor`);
   check((await text(tab, "question")).endsWith("?") && (await text(tab, "answered")).length > 0, `${name}: it has a question and an answer`);
   check(await tab.until(`document.getElementById('editor').dataset.form === 'text'`), `${name}: it is read as a text`);
-  const wanted = callProgram("lwkt_run_turns", read(examples, "litmus", `${name}.json`)).text;
+  const wanted = callProgram("lwkt_run_turns", read(examples, "litmus/json", `${name}.json`)).text;
   check(`${await text(tab, "report")}\n`.endsWith(wanted), `${name}: its report`);
   const shown = await tab.ask(`[...document.querySelectorAll('#verdicts li')].map((it) => it.dataset.holds)`);
-  const expected = script.split(/[\n;]/).filter((it) => /^\s*(always|sometimes|never)\b/.test(it)).length;
+  const expected = script.split(/[\n;]/).filter((it) => /^\s*(always|sometimes|never|in rounds)\b/.test(it)).length;
   same(shown, Array(expected).fill("true"), `${name}: what it expects holds`);
   const names = [...script.replace(/#.*/g, "").matchAll(/^(?:token|thread) (\w+)/gm)].map(([, it]) => it).sort();
   same(await tab.ask(`[...document.querySelectorAll('.thread .name, [data-token] .name')].map((it) => it.textContent.trim()).sort()`), names, `${name}: names beside the numbers`);
