@@ -419,11 +419,11 @@ class Machine:
         """The state at which the run in rounds stops, of at most so many."""
         state = self.opening
         for _ in range(rounds):
-            ran = False
+            before, ran = state, False
             for c in self.cpus:
                 state = self.turn(state, c)
                 ran = ran or self.has_run
-            if not ran and all(is_over(t) for threads in self.threads for t in threads):
+            if state == before or (not ran and all(is_over(t) for threads in self.threads for t in threads)):
                 break
         return state
 
