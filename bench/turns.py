@@ -1,6 +1,8 @@
-"""A script's machine in plain Python, written from docs/FORMATS.md and docs/MODEL.md, and all orders of its turns; for bench/claims.
+"""A script's machine in plain Python, by docs/FORMATS.md, docs/MODEL.md and the specs of lwkt_plain, and all orders of its turns; for
+bench/claims.
 
-A state is bytes, so that equal states are equal bytes. Lanes and queues have no limits here: the scripts are too small to meet them.
+A state is bytes, so that equal states are equal bytes. Lanes and queues have no limits here, for the scripts are too small to meet them,
+messages no priority, and threads no variables, conditions and loops.
 """
 import marshal
 
