@@ -36,6 +36,7 @@ function readOrders(text) {
     else if (readVerdict(line)) continue;
     else if (readForm(line) && last) last.forms.push(readForm(line));
     else if (line.startsWith("lost: ")) read.lost = line.slice(6);
+    else if (line.startsWith("stopped by ")) continue;
     else if (readSum(line)) read.sum = readSum(line);
     else if (line.startsWith("why: ") && last) last.why = line.slice(5).split("; ");
     else if (line && last) last.report.push(line);

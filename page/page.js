@@ -327,10 +327,10 @@ async function drawPicture(it, round) {
   if (it !== run) return;
   it.picture = from;
   it.drawn = textOf(drawn);
-  const isDrawn = showPicture(at("drawing"), textOf(drawn), Boolean(it.order)) !== null;
+  const isDrawn = showPicture(at("drawing"), textOf(drawn)) !== null;
   const range = `${it.order ? "turns" : "rounds"} ${from} to ${to} of 0 to ${Math.max(0, it.rounds - 1)}`;
   at("drawing").hidden = at("save-picture").hidden = !isDrawn;
-  at("rounds").textContent = isDrawn ? range : `${range}: no picture, since it would have turns of this order over each other`;
+  at("rounds").textContent = isDrawn ? range : `${range}: no picture`;
   at("rounds-back").hidden = at("rounds-forth").hidden = it.rounds <= wholePicture;
 }
 

@@ -221,24 +221,18 @@ function showLanes(place, look) {
   else place.append(table(["From → to", "On its way"], rows), make("p", { class: "quiet" }, "A note is in the lane or in its port's queue until it is taken; lines of a run don't tell these two apart. One that is urgent is served before the others that are in the port."));
 }
 
-// Whether each turn of an order has a column of its own in a picture, so that no two lie over each other.
-function hasColumns(picture) {
-  const places = [...picture.querySelectorAll("g")].filter((group) => /^turn \d+, /.test(group.querySelector("title")?.textContent || "")).map((group) => group.querySelector("rect").getAttribute("x"));
-  return places.every((x, i) => i === 0 || x !== places[i - 1]);
-}
-
 // A picture is as wide as its place where its letters are then neither too small nor too large.
 function fitPicture(picture) {
   const wide = picture.viewBox.baseVal.width;
-  picture.style.width = `clamp(${wide * 1.2}px, 100%, ${wide * 1.8}px)`;
+  picture.style.width = `clamp(${wide}px, 100%, ${wide * 1.5}px)`;
   picture.style.height = "auto";
 }
 
 // Puts a picture into its place and returns its root, or null where the text is no picture, or one that can't be read.
-function showPicture(place, text, isAlong) {
+function showPicture(place, text) {
   const read = new DOMParser().parseFromString(text, "image/svg+xml");
   const isPicture = !read.querySelector("parsererror") && read.documentElement.localName === "svg";
-  if (!isPicture || (isAlong && !hasColumns(read.documentElement))) {
+  if (!isPicture) {
     place.shadowRoot?.replaceChildren();
     return null;
   }
@@ -253,12 +247,20 @@ function showPicture(place, text, isAlong) {
   return root;
 }
 
+// The box of a turn: its own, or in a column that rounds share that of its processor.
+function boxOf(picture, number) {
+  const has = (group) => number >= Number(group.dataset.turn) && number <= Number(group.dataset.until ?? group.dataset.turn);
+  const groups = [...picture.querySelectorAll("g[data-turn]")].filter(has);
+  const every = Number(groups[0]?.dataset.every ?? 1);
+  return (groups.find((group) => (number - Number(group.dataset.turn)) % every === 0) ?? groups[0])?.querySelector("rect");
+}
+
 // Marks a turn in the picture, with the turns behind it pale, and brings it into view.
 function markPicture(place, number) {
   const picture = place.shadowRoot?.querySelector("svg");
   picture?.querySelector(".chosen")?.remove();
   for (const group of picture?.querySelectorAll("g[data-turn]") || []) group.classList.toggle("later", Number(group.dataset.turn) > number);
-  const box = picture?.querySelector(`g[data-turn="${number}"] rect`);
+  const box = picture && boxOf(picture, number);
   if (!box) return;
   const value = (name) => Number(box.getAttribute(name));
   const mark = document.createElementNS("http://www.w3.org/2000/svg", "rect");

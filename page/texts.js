@@ -15,14 +15,14 @@ function sentencesOf(text) {
     const found = /[^\s,:](?:[^]*[^\s,:])?/.exec(piece);
     if (!found || piece[0] === "#") continue;
     const from = index + found.index, [said] = found;
-    sentences.push({ said, word: /^\w*/.exec(said)[0], from, to: from + said.length });
+    sentences.push({ said, word: /^[\w~]*/.exec(said)[0], from, to: from + said.length });
   }
   return sentences;
 }
 
 // What a numbered copy of a text has as it is, what it leaves out, and what `end` ends.
 const keptWords = ["turns", "idle", "cpus", "token", "message", "thread", "const", "for"];
-const leftWords = ["var", "else", "end", "always", "sometimes", "never"];
+const leftWords = ["var", "else", "end", "always", "sometimes", "never", "forall", "exists", "~exists", "~", "in"];
 const openWords = ["for", "if", "while", "times", "loop"];
 
 // The words that begin a sentence or stand in its head, for their color.
@@ -101,7 +101,7 @@ const noNames = { tokens: [], cells: [], messages: [], threads: new Map() };
 
 // What a line of a text expects, each by itself.
 function expectationsIn(line) {
-  return line.replace(/#.*$/, "").split(";").map((it) => it.trim()).filter((it) => /^[\s,:]*(always|sometimes|never)\b/.test(it));
+  return line.replace(/#.*$/, "").split(";").map((it) => it.trim()).filter((it) => /^[\s,:]*(always|sometimes|never|forall|exists|~[\s,:]*exists|in[\s,:]+rounds)\b/.test(it));
 }
 
 // A line that says whether an expectation holds: `4: holds`; over all orders with the order of the outcome that decides it.

@@ -63,7 +63,7 @@ function tryCuts(name) {
 
 // A text that is cut off is what its JSON is that is cut off.
 function tryTextCuts(name) {
-  const [text, json] = [".lwkt", ".json"].map((ending) => read(examples, "litmus", name + ending));
+  const [text, json] = [`${name}.lwkt`, `json/${name}.json`].map((file) => read(examples, "litmus", file));
   const [one, other] = [scripts.cutScript(text, 2, true), scripts.cutScript(json, 2)].map((script) => callProgram("lwkt_show_turns", script, "turns"));
   same(one, other, `${name}: a text that is cut off`);
 }

@@ -60,7 +60,7 @@ function trySpoiled(name, times) {
 
 // A text of the course: it is one, its JSON is the script beside it, and its report is that of this.
 function tryCourse(name) {
-  const text = read(examples, "litmus", `${name}.lwkt`), json = read(examples, "litmus", `${name}.json`);
+  const text = read(examples, "litmus", `${name}.lwkt`), json = read(examples, "litmus/json", `${name}.json`);
   same([call("lwkt_is_text", text).status, call("lwkt_is_text", json).status], [1, 0], `${name}: its form`);
   same(JSON.parse(call("lwkt_text_json", text).text), JSON.parse(json), `${name}: its JSON`);
   const told = call("lwkt_run_text", text);

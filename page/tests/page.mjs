@@ -63,10 +63,10 @@ async function tryCourse(tab, name) {
   same(await value(tab, "script"), script, `${name}: its text is in the editor`);
   check((await text(tab, "question")).endsWith("?") && (await text(tab, "answered")).length > 0, `${name}: it has a question and an answer`);
   check(await tab.until(`document.getElementById('editor').dataset.form === 'text'`), `${name}: it is read as a text`);
-  const wanted = callProgram("lwkt_run_turns", read(examples, "litmus", `${name}.json`)).text;
+  const wanted = callProgram("lwkt_run_turns", read(examples, "litmus/json", `${name}.json`)).text;
   check(`${await text(tab, "report")}\n`.endsWith(wanted), `${name}: its report`);
   const shown = await tab.ask(`[...document.querySelectorAll('#verdicts li')].map((it) => it.dataset.holds)`);
-  const expected = script.split(/[\n;]/).filter((it) => /^\s*(always|sometimes|never)\b/.test(it)).length;
+  const expected = script.split(/[\n;]/).filter((it) => /^\s*(always|sometimes|never|in rounds)\b/.test(it)).length;
   same(shown, Array(expected).fill("true"), `${name}: what it expects holds`);
   const names = [...script.replace(/#.*/g, "").matchAll(/^(?:token|thread) (\w+)/gm)].map(([, it]) => it).sort();
   same(await tab.ask(`[...document.querySelectorAll('.thread .name, [data-token] .name')].map((it) => it.textContent.trim()).sort()`), names, `${name}: names beside the numbers`);
@@ -570,7 +570,7 @@ async function tryOpening() {
     const tab = await browser.open(url, { width, height });
     await tab.until(`run && ${settled} && document.querySelector('#drawing').shadowRoot?.querySelector('.chosen')`);
     same(await value(tab, "script"), read(examples, "litmus/01_one_at_a_time.lwkt"), "the page opens with a lesson");
-    const [top, bottom, size] = await tab.ask(`(() => { const box = document.getElementById('drawing').getBoundingClientRect(), svg = document.getElementById('drawing').shadowRoot.querySelector('svg'); return [box.top, box.bottom, 10 * svg.getBoundingClientRect().width / svg.viewBox.baseVal.width]; })()`);
+    const [top, bottom, size] = await tab.ask(`(() => { const box = document.getElementById('drawing').getBoundingClientRect(), svg = document.getElementById('drawing').shadowRoot.querySelector('svg'); return [box.top, box.bottom, 12 * svg.getBoundingClientRect().width / svg.viewBox.baseVal.width]; })()`);
     check(top > 0 && bottom < height && size >= 12, `its picture is in view at ${width} pixels, from ${top} to ${bottom}, with letters of ${size}`);
     await tab.close();
   }

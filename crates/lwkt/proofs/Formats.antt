@@ -44,8 +44,8 @@ status_by verdicts.Lawful false = refl
 status_by (verdicts.Unlawful index) true = refl
 status_by (verdicts.Unlawful index) false = refl
 
-pub status_unasked : (closing : Closing) → status_of_judgement (judgement_of [] closing) ≡ exit_status (Ok (end_of_closing closing))
-status_unasked closing = status_by closing.verdict (all_ended closing)
+pub status_unasked : (mode : Mode) (closing : Closing) → status_of_judgement (judgement_of [] mode closing) ≡ exit_status (Ok (end_of_closing closing))
+status_unasked mode closing = status_by closing.verdict (all_ended closing)
 
 abbrev input_or : Input → Result Input Unread → Input
 input_or input (Ok found) = found
@@ -96,7 +96,7 @@ has_run mode bytes text input status report is =
 
 status_run : (mode : Mode) (bytes text : List ℕ) (input : Input) (status : ℕ) (report : IsReport mode OldName input text status) → json_input (script_of bytes) ≡ Ok input → status ≡ exit_status (Ok (end_of_closing report.closing))
 status_run mode bytes text input status report is =
-    report.is_status ∙ ap (λ (said : List Expectation). status_of_judgement (judgement_of said report.closing)) (json_read (script_of bytes) input is).1 ∙ status_unasked report.closing
+    report.is_status ∙ ap (λ (said : List Expectation). status_of_judgement (judgement_of said mode report.closing)) (json_read (script_of bytes) input is).1 ∙ status_unasked mode report.closing
 
 -- JSON is refused as it is
 refused : (bytes : List ℕ) (fault : Refusal) → RefusesInput (json_input (script_of bytes)) fault → Refuses (front bytes) fault

@@ -13,6 +13,7 @@ use Rattle.lwkt_explore.specs.declared.judgements.Judgement.TheVariants.{Met, No
 use Rattle.lwkt_explore.specs.declared.searches.Found.{Found}
 use Rattle.lwkt_report.specs.declared.arguments.WordsFault.{WordsFault}
 use Rattle.lwkt_report.specs.declared.arguments.WordsFault.TheVariants as words
+use Rattle.lwkt_report.specs.declared.closings.Closing.{Closing}
 use Rattle.lwkt_report.specs.declared.streams.RunFault.{RunFault}
 use Rattle.lwkt_report.specs.declared.streams.RunFault.TheVariants as run
 use Rattle.lwkt_request.specs.declared.requests.Asked.{Asked}
@@ -21,6 +22,7 @@ use Rattle.lwkt_request.specs.declared.requests.Form.TheVariants as form
 use Rattle.lwkt_request.specs.declared.requests.Task.{Task}
 use Rattle.lwkt_request.specs.declared.requests.Task.TheVariants.{Run, Show, Check, Text, Explore}
 use Rattle.lwkt_request.specs.Wishes.{wish_by}
+use Rattle.lwkt_run.specs.declared.modes.Mode.TheVariants.{Turns}
 use Rattle.lwkt_run.specs.declared.runs.End.{End}
 use Rattle.lwkt_run.specs.declared.runs.End.TheVariants as ends
 use Rattle.lwkt_run.specs.Run.{exit_status}
@@ -34,7 +36,7 @@ use Rattle.lwkt.specs.Answering.{Does, DoesAsked, Serves, ServesBy, ServesFile, 
 use Rattle.lwkt.specs.Counting.{Counts}
 use Rattle.lwkt.specs.Ending.{HasFailed, OwnsThree, WantsMemory, ending_of_check, ending_of_words}
 use Rattle.lwkt.specs.Failing.{ending_of, ending_of_fault}
-use Rattle.lwkt.specs.Making.{IsMade}
+use Rattle.lwkt.specs.Making.{IsMade, mode_of}
 use Rattle.lwkt.specs.Performing.{AnswersRead, Performs}
 
 -- the other statuses
@@ -79,20 +81,20 @@ status_by_text false true met status other is = no_4 is
 status_by_text false false true status other is = no_0 is
 status_by_text false false false status other is = no_5 is
 
-text_status : (expectations : List Expectation) (found : Found) → status_of_text expectations found ≡ 3 → ⊥
-text_status expectations found is =
-    status_by_text (length expectations == 0) (differs found) (is_complete found && list_all (holds found) expectations) (status_of_found found)
+text_status : (expectations : List Expectation) (rounds : Option Closing) (found : Found) → status_of_text expectations rounds found ≡ 3 → ⊥
+text_status expectations rounds found is =
+    status_by_text (length expectations == 0) (differs found) (is_complete found && list_all (holds rounds found) expectations) (status_of_found found)
     (status_by_found (differs found) (is_complete found) (is_some found.lost) (list_any is_stuck found.outcomes.all.items)) is
 
 made_status : (task : Task) (order : Option (List ℕ)) (input : Input) (text : List ℕ) (status : ℕ) → IsMade task order input text status → status ≡ 3 → ⊥
-made_status (Run on_threads wording) order input text status made is = judged_status (judgement_of input.expectations made.closing) (sym made.is_status ∙ is)
+made_status (Run on_threads wording) order input text status made is = judged_status (judgement_of input.expectations (mode_of on_threads) made.closing) (sym made.is_status ∙ is)
 made_status (Show false in_numbers options) order input text status (end, (shown, same)) is = end_status end (sym same ∙ is)
 made_status (Show true in_numbers options) order input text status (end, (shown, same)) is = end_status end (sym same ∙ is)
 made_status (Check by_lines) order input text status made is = absurd made
 made_status (Text form.Json) order input text status (exact, (short, same)) is = no_0 (sym same ∙ is)
 made_status (Text form.Text) order input text status (exact, (short, same)) is = no_0 (sym same ∙ is)
-made_status (Text form.Run) order input text status made is = judged_status (judgement_of input.expectations made.closing) (sym made.is_status ∙ is)
-made_status (Explore search) order input text status made is = text_status input.expectations made.found (sym made.is_status ∙ is)
+made_status (Text form.Run) order input text status made is = judged_status (judgement_of input.expectations Turns made.closing) (sym made.is_status ∙ is)
+made_status (Explore search) order input text status made is = text_status input.expectations made.is.rounds made.is.found (sym made.is.is_status ∙ is)
 
 -- endings
 by_done : (ending : Ending) (status : ℕ) → ending ≡ Done status → (status ≡ 3 → ⊥) → OwnsThree ending

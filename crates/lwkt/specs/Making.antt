@@ -6,14 +6,18 @@ use Rattle.lwkt_explore.specs.declared.searches.Found.{Found}
 use Rattle.lwkt_explore.specs.Expectations.{status_of_text}
 use Rattle.lwkt_explore.specs.Extents.{is_complete}
 use Rattle.lwkt_explore.specs.Judgements.{judgement_of, status_of_judgement}
+use Rattle.lwkt_explore.specs.Rounds.{AreRounds}
 use Rattle.lwkt_explore.specs.Outcomes.{AreOutcomes, AreShort, AreWhole, HasEnded}
 use Rattle.lwkt_explore.specs.declared.forms.Telling.{Telling}
-use Rattle.lwkt_explore.specs.Texts.{text_of_found, told_of_found}
+use Rattle.lwkt_explore.specs.Jsons.{finding_json}
+use Rattle.lwkt_explore.specs.Texts.{text_in}
 use Rattle.lwkt_explore.specs.Tries.{HasTriedOrders, HasTriedStates}
 use Rattle.lwkt_report.specs.declared.closings.Closing.{Closing}
 use Rattle.lwkt_report.specs.Report.{report_text}
 use Rattle.lwkt_request.specs.declared.requests.Form.{Form}
 use Rattle.lwkt_request.specs.declared.requests.Form.TheVariants as form
+use Rattle.lwkt_request.specs.declared.requests.Layout.{Layout}
+use Rattle.lwkt_request.specs.declared.requests.Layout.TheVariants.{Lines, Json}
 use Rattle.lwkt_request.specs.declared.requests.Search.{Search}
 use Rattle.lwkt_request.specs.declared.requests.Task.{Task}
 use Rattle.lwkt_request.specs.declared.requests.Task.TheVariants.{Run, Show, Check, Text, Explore}
@@ -50,7 +54,7 @@ pub record IsReport (mode : Mode) (wording : Wording) (input : Input) (text : Li
   pub closing : Closing
   pub closes : MayCloseBy mode input.script closing
   pub is_text : text ≡ report_in wording input closing
-  pub is_status : status ≡ status_of_judgement (judgement_of input.expectations closing)
+  pub is_status : status ≡ status_of_judgement (judgement_of input.expectations mode closing)
 
 -- the names in which a run is shown: those of a text, unless numbers are asked for
 abbrev pub names_in : Bool → Input → Option Names
@@ -97,29 +101,41 @@ IsFoundBy (Some most) search script found = IsSampled most search.bounds.turns s
 abbrev pub IsFound : Search → Script → Found → Type 0
 IsFound search script found = IsFoundBy search.random search script found
 
--- the text of what is found, in these names
-pub record IsToldFinding (names : Names) (script : Script) (found : Found) (text : List ℕ) : Type 0 where
+-- the text of what is found of an input with these bytes, in a layout
+abbrev pub text_in_layout : Layout → Option Telling → List ℕ → Input → Option Closing → Found → List ℕ
+text_in_layout Lines telling bytes input rounds found = text_in telling found
+text_in_layout Json telling bytes input rounds found = finding_json telling bytes input.expectations rounds found
+
+-- the same in these names
+pub record IsToldFinding (layout : Layout) (names : Names) (bytes : List ℕ) (input : Input) (rounds : Option Closing) (found : Found) (text : List ℕ) : Type 0 where
   pub telling : Telling
   pub are_names : telling.names.now ≡ names
-  pub is_script : telling.script.now ≡ script
-  pub is_text : text ≡ told_of_found telling found
+  pub is_script : telling.script.now ≡ input.script
+  pub is_text : text ≡ text_in_layout layout (Some telling) bytes input rounds found
 
 -- the same in the names of a text, if it has some
-abbrev pub IsNamedFinding : Option Names → Script → Found → List ℕ → Type 0
-IsNamedFinding None script found text = text ≡ text_of_found found
-IsNamedFinding (Some names) script found text = IsToldFinding names script found text
+abbrev pub IsNamedFinding : Layout → Option Names → List ℕ → Input → Option Closing → Found → List ℕ → Type 0
+IsNamedFinding layout None bytes input rounds found text = text ≡ text_in_layout layout None bytes input rounds found
+IsNamedFinding layout (Some names) bytes input rounds found text = IsToldFinding layout names bytes input rounds found text
 
 -- the same in numbers, if that is asked for, or else in names
-abbrev pub IsFindingIn : Bool → Input → Found → List ℕ → Type 0
-IsFindingIn true input found text = text ≡ text_of_found found
-IsFindingIn false input found text = IsNamedFinding input.names input.script found text
+abbrev pub IsFindingIn : Bool → Layout → List ℕ → Input → Option Closing → Found → List ℕ → Type 0
+IsFindingIn true layout bytes input rounds found text = text ≡ text_in_layout layout None bytes input rounds found
+IsFindingIn false layout bytes input rounds found text = IsNamedFinding layout input.names bytes input rounds found text
 
--- the text of what is found; the status is by what is expected
-pub record IsFinding (search : Search) (input : Input) (text : List ℕ) (status : ℕ) : Type 0 where
+-- the text of what is found of an input with these bytes; the status is by what is expected
+pub record IsFindingOf (search : Search) (bytes : List ℕ) (input : Input) (text : List ℕ) (status : ℕ) : Type 0 where
   pub found : Found
   pub is_found : IsFound search input.script found
-  pub is_text : IsFindingIn search.in_numbers input found text
-  pub is_status : status ≡ status_of_text input.expectations found
+  pub rounds : Option Closing
+  pub are_rounds : AreRounds input.script input.expectations rounds
+  pub is_text : IsFindingIn search.in_numbers search.layout bytes input rounds found text
+  pub is_status : status ≡ status_of_text input.expectations rounds found
+
+-- the same of an input with some bytes, by which JSON has the lines of what a text says
+pub record IsFinding (search : Search) (input : Input) (text : List ℕ) (status : ℕ) : Type 0 where
+  pub bytes : List ℕ
+  pub is : IsFindingOf search bytes input text status
 
 -- what a task makes of an input, with this order, if one is named; a check takes none
 abbrev pub IsMade : Task → Option (List ℕ) → Input → List ℕ → ℕ → Type 0

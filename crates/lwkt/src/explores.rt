@@ -1,19 +1,20 @@
 //! Orders of a script's turns, tried.
 ghost use Rattle.std.specs.Prelude.{◌≡◌, IfErr, IfOk, string_bytes};
+ghost use Rattle.std.specs.Option.{option_copied};
 ghost use Rattle.lwkt_explore.specs.Outcomes.{RefusesSearch};
 ghost use Rattle.lwkt.specs.Failing.{IsFault};
-ghost use Rattle.lwkt.specs.Making.{IsFinding, IsFindingIn, IsFound, IsNamedFinding, IsToldFinding};
+ghost use Rattle.lwkt.specs.Making.{IsFinding, IsFindingIn, IsFindingOf, IsFound, IsNamedFinding, IsToldFinding, text_in_layout};
 
 use crate::failures::Failure;
 use crate::tickers::Ticker;
 use crate::written::Made;
 use lwkt_base::{Fault, OutOfMemory};
 use lwkt_explore::{
-    Found, Telling, explore, quoted_verdicts_of, sample, status_of_text, text_of, told_text_of,
-    verdicts_of,
+    Found, Telling, explore, json_of, quoted_verdicts_of, rounds_of, sample, status_of_text,
+    text_in, verdicts_of,
 };
-use lwkt_report::Sink;
-use lwkt_request::Search;
+use lwkt_report::{Closing, Sink};
+use lwkt_request::{Layout, Search};
 use lwkt_script::Script;
 use lwkt_text::claims::Expectation;
 use lwkt_text::{Input, Names};
@@ -45,58 +46,100 @@ fn found_of<R: Clock, E: Sink>(
     }
 }
 
-// The text of what is found, in these names.
-fn told_text(
+// The text of what is found of an input with these bytes, in a layout.
+fn text_in_layout(
     alloc: Global,
-    names: &Names,
-    script: &Script,
+    layout: Layout,
+    telling: Option<&Telling<'_>>,
+    bytes: &[u8],
+    input: &Input,
+    rounds: &Option<Closing>,
     found: &Found,
 ) -> Result<String, OutOfMemory>
-    ensures { IfOk result (λ text. IsToldFinding names.now script.now found.now (string_bytes text)) }
+    ensures { IfOk result (λ text. string_bytes text ≡ text_in_layout layout (option_copied telling.entry) bytes.now input.now rounds.now found.now) }
 {
+    match layout {
+        Layout::Lines => text_in(alloc, telling, found),
+        Layout::Json => json_of(
+            alloc,
+            telling,
+            bytes,
+            input.expectations.as_slice(),
+            rounds,
+            found,
+        ),
+    }
+}
+
+// The same in these names.
+fn told_text(
+    alloc: Global,
+    layout: Layout,
+    names: &Names,
+    bytes: &[u8],
+    input: &Input,
+    rounds: &Option<Closing>,
+    found: &Found,
+) -> Result<String, OutOfMemory>
+    ensures { IfOk result (λ text. IsToldFinding layout names.now bytes.now input.now rounds.now found.now (string_bytes text)) }
+{
+    let script = &input.script;
     let telling = Telling { names, script };
-    told_text_of(alloc, &telling, found)
+    text_in_layout(alloc, layout, Some(&telling), bytes, input, rounds, found)
 }
 
 // The same in the names of a text, if it has some.
-fn named_text(alloc: Global, input: &Input, found: &Found) -> Result<String, OutOfMemory>
-    ensures { IfOk result (λ text. IsNamedFinding input.now.names input.now.script found.now (string_bytes text)) }
+fn named_text(
+    alloc: Global,
+    layout: Layout,
+    bytes: &[u8],
+    input: &Input,
+    rounds: &Option<Closing>,
+    found: &Found,
+) -> Result<String, OutOfMemory>
+    ensures { IfOk result (λ text. IsNamedFinding layout input.now.names bytes.now input.now rounds.now found.now (string_bytes text)) }
 {
     match &input.names {
-        Some(names) => told_text(alloc, names, &input.script, found),
-        None => text_of(alloc, found),
+        Some(names) => told_text(alloc, layout, names, bytes, input, rounds, found),
+        None => text_in_layout(alloc, layout, None, bytes, input, rounds, found),
     }
 }
 
 // The same in numbers, if that is asked for, or else in names.
-fn text_in(
+fn text_by(
     alloc: Global,
-    in_numbers: bool,
+    search: Search,
+    bytes: &[u8],
     input: &Input,
+    rounds: &Option<Closing>,
     found: &Found,
 ) -> Result<String, OutOfMemory>
-    ensures { IfOk result (λ text. IsFindingIn in_numbers input.now found.now (string_bytes text)) }
+    ensures { IfOk result (λ text. IsFindingIn search.in_numbers search.layout bytes.now input.now rounds.now found.now (string_bytes text)) }
 {
-    if in_numbers {
-        text_of(alloc, found)
+    if search.in_numbers {
+        text_in_layout(alloc, search.layout, None, bytes, input, rounds, found)
     } else {
-        named_text(alloc, input, found)
+        named_text(alloc, search.layout, bytes, input, rounds, found)
     }
 }
 
-// What is said of each expectation, in numbers, if that is asked for, or else as it stands in the text.
+// What is said of each expectation, in numbers, if that is asked for, or else as it stands in the text; nothing where JSON has it.
 fn verdicts_in(
     alloc: Global,
-    in_numbers: bool,
+    search: Search,
     paints: bool,
     bytes: &[u8],
     expectations: &[Expectation],
+    rounds: &Option<Closing>,
     found: &Found,
 ) -> Result<String, OutOfMemory> {
-    if in_numbers {
-        verdicts_of(alloc, bytes, expectations, found)
+    if search.layout == Layout::Json {
+        return Ok(String::new(alloc));
+    }
+    if search.in_numbers {
+        verdicts_of(alloc, bytes, expectations, rounds, found)
     } else {
-        quoted_verdicts_of(alloc, paints, bytes, expectations, found)
+        quoted_verdicts_of(alloc, paints, bytes, expectations, rounds, found)
     }
 }
 
@@ -110,21 +153,16 @@ pub fn finding_of<R: Clock, E: Sink>(
     input: &Input,
     errors: &mut E,
 ) -> Result<Made, Failure>
+    ensures exact { IfOk result (λ made. IsFindingOf search bytes.now input.now (string_bytes made.text) made.status) }
     ensures made { IfOk result (λ made. IsFinding search input.now (string_bytes made.text) made.status) }
     ensures declined { IfErr result (IsFault (RefusesSearch input.now.script)) }
 {
     let found = found_of(rt, alloc, search, &input.script, errors)?;
     let expectations = input.expectations.as_slice();
-    let text = text_in(alloc, search.in_numbers, input, &found)?;
-    let verdicts = verdicts_in(
-        alloc,
-        search.in_numbers,
-        paints,
-        bytes,
-        expectations,
-        &found,
-    )?;
-    let status = status_of_text(expectations, &found);
+    let rounds = rounds_of(alloc, &input.script, expectations)?;
+    let text = text_by(alloc, search, bytes, input, &rounds, &found)?;
+    let verdicts = verdicts_in(alloc, search, paints, bytes, expectations, &rounds, &found)?;
+    let status = status_of_text(expectations, &rounds, &found);
     Ok(Made {
         text,
         status,

@@ -38,6 +38,7 @@ pub struct Words {
 // What is said of a run of a text in its names; of JSON, which has none, in numbers.
 fn named_account(
     alloc: Global,
+    mode: Mode,
     words: Words,
     path: Option<&str>,
     bytes: &[u8],
@@ -45,7 +46,7 @@ fn named_account(
     closing: &Closing,
 ) -> Result<Account, OutOfMemory>
     ensures report { IfOk result (λ account. string_bytes account.report ≡ named_report input.now.names input.now.script closing.now) }
-    ensures judgement { IfOk result (λ account. account.judgement ≡ judgement_of input.now.expectations closing.now) }
+    ensures judgement { IfOk result (λ account. account.judgement ≡ judgement_of input.now.expectations mode closing.now) }
 {
     let expectations = input.expectations.as_slice();
     match &input.names {
@@ -54,15 +55,24 @@ fn named_account(
                 names,
                 script: &input.script,
             };
-            told_account_of(alloc, &telling, words.paints, bytes, expectations, closing)
+            told_account_of(
+                alloc,
+                &telling,
+                words.paints,
+                bytes,
+                expectations,
+                mode,
+                closing,
+            )
         }
-        None => account_of(alloc, path, bytes, expectations, closing),
+        None => account_of(alloc, path, bytes, expectations, mode, closing),
     }
 }
 
 // What is said of a run in the words that are asked for.
 fn account_in(
     alloc: Global,
+    mode: Mode,
     words: Words,
     path: Option<&str>,
     bytes: &[u8],
@@ -70,12 +80,19 @@ fn account_in(
     closing: &Closing,
 ) -> Result<Account, OutOfMemory>
     ensures report { IfOk result (λ account. string_bytes account.report ≡ report_in words.wording input.now closing.now) }
-    ensures judgement { IfOk result (λ account. account.judgement ≡ judgement_of input.now.expectations closing.now) }
+    ensures judgement { IfOk result (λ account. account.judgement ≡ judgement_of input.now.expectations mode closing.now) }
 {
     match words.wording {
-        Wording::Names => named_account(alloc, words, path, bytes, input, closing),
+        Wording::Names => named_account(alloc, mode, words, path, bytes, input, closing),
         Wording::Numbers | Wording::OldName => {
-            account_of(alloc, path, bytes, input.expectations.as_slice(), closing)
+            account_of(
+                alloc,
+                path,
+                bytes,
+                input.expectations.as_slice(),
+                mode,
+                closing,
+            )
         }
     }
 }
@@ -95,7 +112,7 @@ pub fn report_of<R: Threads + Sync>(
     ensures declined { IfErr result (IsFault (DeclinesRun input.now.script)) }
 {
     let closing = close_by(rt, alloc, mode, &input.script)?;
-    let account = account_in(alloc, words, path, bytes, input, &closing)?;
+    let account = account_in(alloc, mode, words, path, bytes, input, &closing)?;
     let Account {
         report,
         verdicts,

@@ -1,8 +1,7 @@
 use Rattle.std.proofs.Common.{◌≡◌, ◌+◌, ℕ, zero, suc, List, [], ◌∷◌, ◌++◌, None, Some, slice_get, append_assoc, subst, refl, arith}
-use Rattle.std.specs.Option.{option_map_or}
 use Rattle.lwkt_report.specs.Report.{numbered_lines}
 use Rattle.lwkt_explore.specs.Laws.{StandIn, OutcomesAreNumbered}
-use Rattle.lwkt_explore.specs.Texts.{Group, by_kind, outcome_lines, lost_line, sum_line, text_in}
+use Rattle.lwkt_explore.specs.Texts.{Group, by_kind, end_lines, outcome_lines, sum_line, text_in}
 
 -- the lines of an item stand in those of all
 numbered_at : (line : ℕ → Group → List ℕ) (n : ℕ) (all : List Group) (place : ℕ) (one : Group) → slice_get all place ≡ Some one → StandIn (numbered_lines line n all) (line (n + place) one)
@@ -29,7 +28,7 @@ unfolding text_in
 numbered found place one is =
     let line = outcome_lines None found.tried in
     let all = numbered_lines line 1 (by_kind found.outcomes) in
-    let lost = option_map_or lost_line found.lost [] in
+    let lost = end_lines found in
     let N : ℕ → Type 0 = λ n. StandIn all (line n one) in
     let next : 1 + place ≡ place + 1 = omega arith in
     let there = subst N next (numbered_at line 1 (by_kind found.outcomes) place one is) in

@@ -7,3 +7,4 @@ pub mod SettledLemmas
 pub mod StrayLemmas
 pub mod TextLemmas
 pub mod ToldLemmas
+pub mod Writing

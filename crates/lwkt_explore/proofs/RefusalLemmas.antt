@@ -5,7 +5,7 @@ use Rattle.lwkt_report.specs.declared.closings.Verdict.{Verdict}
 use Rattle.lwkt_report.specs.declared.closings.Verdict.TheVariants.{Closed, Lawful, Unlawful as UnlawfulVerdict}
 use Rattle.lwkt_script.specs.declared.scripts.Script.{Script}
 use Rattle.lwkt_run.specs.declared.runs.TurnsRun.{TurnsRun}
-use Rattle.lwkt_run.specs.Run.{AreThere, DeclinesAlong, IsOrderRun}
+use Rattle.lwkt_run.specs.Run.{AreThere, DeclinesAlong, DeclinesRun, IsOrderRun}
 use Rattle.lwkt_explore.specs.Outcomes.{RefusesSearch}
 use Rattle.lwkt_explore.specs.Verdicts.{IsOfVerdict}
 
@@ -16,6 +16,11 @@ refused_along script order Limits there why = why.1
 refused_along script order LawBroken there why = why.1
 refused_along script order (Unlawful index) there why = absurd why
 refused_along script order _ there why = why
+
+-- why a run in rounds is refused
+pub refused_run : (script : Script) (fault : Fault) → DeclinesRun script fault → RefusesSearch script fault
+refused_run script (Unlawful index) why = absurd why
+refused_run script _ why = why
 
 -- what the verdict of a run along an order of its script's processors says
 judged_as : (script : Script) (order : List ℕ) (run : TurnsRun) (fault : Fault) (verdict : Verdict) → run.closing.verdict ≡ verdict → IsOrderRun script order run → IsOfVerdict verdict fault → RefusesSearch script fault

@@ -68,9 +68,9 @@ all_are_told script cpus turns bound found outcomes is same whole reports = λ o
     }
 
 -- no state is lost, if none was found
-pub none_found : (script : Script) (cpus turns bound : ℕ) (found : Searched Store) (lost : List Last) → ((order : List ℕ) → IsOrder cpus order → IsLost (form_turn script) (HasEnded script) cpus (state_after script order) → HasOutcome (state_after script order) (all_told (opened script) (kept found.growth.store) lost)) → slice_get lost 0 ≡ None → NoneIsLost script cpus
-none_found script cpus turns bound found lost complete none = λ order along.
-    let tell : Last → Told Plain = told_of (opened script) (kept found.growth.store) in
+pub none_found : (script : Script) (cpus : ℕ) (states : List Plain) (lost : List Last) → ((order : List ℕ) → IsOrder cpus order → IsLost (form_turn script) (HasEnded script) cpus (state_after script order) → HasOutcome (state_after script order) (all_told (opened script) states lost)) → slice_get lost 0 ≡ None → NoneIsLost script cpus
+none_found script cpus states lost complete none = λ order along.
+    let tell : Last → Told Plain = told_of (opened script) states in
     let has = complete order along.there along.lost in
     let long : length (map tell lost) ≡ length lost = length-map lost tell in
     let empty : length lost ≡ 0 = none_first lost none in

@@ -1,6 +1,6 @@
 -- What is said of an outcome, and whether it is so (own).
 use Rattle.std.specs.Prelude.{ℕ, ◌==◌, ◌&&◌, ◌||◌, not, nat_lt, nat_le, length, if◌then◌else◌, List, [], ◌∷◌, slice_get, bytes_eq, Bool, true, false, Option, Some, None, option_map, unwrap_or}
-use Rattle.std.specs.List.{list_all}
+use Rattle.std.specs.List.{list_all, list_any}
 use Rattle.lwkt_base.specs.declared.entries.Entry.{Entry}
 use Rattle.lwkt_base.specs.declared.entries.Entry.TheVariants as entries
 use Rattle.lwkt_base.specs.declared.message_words.MsgState.{MsgState}
@@ -17,15 +17,20 @@ use Rattle.lwkt_base.specs.Threads.{is_done}
 use Rattle.lwkt_report.specs.declared.closings.Closing.{Closing}
 use Rattle.lwkt_base.specs.declared.threads.ThreadLine.{ThreadLine}
 use Rattle.lwkt_base.specs.declared.limits.TheConstants.{LOG_LIMIT}
-use Rattle.lwkt_text.specs.declared.claims.Claim.{Claim}
-use Rattle.lwkt_text.specs.declared.claims.Claim.TheVariants as claims
+use Rattle.lwkt_text.specs.declared.claims.Fact.{Fact}
+use Rattle.lwkt_text.specs.declared.claims.Fact.TheVariants as facts
+use Rattle.lwkt_text.specs.declared.claims.Pattern.{Pattern}
+use Rattle.lwkt_text.specs.declared.claims.Pattern.TheVariants as patterns
+use Rattle.lwkt_text.specs.declared.claims.SaidCall.{SaidCall}
 use Rattle.lwkt_text.specs.declared.claims.Relation.{Relation}
 use Rattle.lwkt_text.specs.declared.claims.Relation.TheVariants as relations
 use Rattle.lwkt_text.specs.declared.claims.ClaimedState.{ClaimedState}
 use Rattle.lwkt_text.specs.declared.claims.ClaimedState.TheVariants as claimed
+use Rattle.lwkt_text.specs.Statements.{Statement, fact, each_of, one_of, none_of}
 use Rattle.lwkt_explore.specs.Readings.{sum_of}
-use Rattle.lwkt_explore.specs.declared.claims.Truth.{Truth}
-use Rattle.lwkt_explore.specs.declared.claims.Truth.TheVariants.{Yes, No, Open}
+use Rattle.lwkt_explore.specs.Truths.{known, opposite, lesser, greater}
+use Rattle.lwkt_explore.specs.declared.truths.Truth.{Truth}
+use Rattle.lwkt_explore.specs.declared.truths.Truth.TheVariants.{Yes, No, Open}
 
 -- whether a thread stands so
 abbrev pub is_in_state : ClaimedState → ThreadState → Bool
@@ -56,50 +61,58 @@ abbrev pub same_bool : Bool → Bool → Bool
 same_bool true b = b
 same_bool false b = not b
 
-abbrev pub same_call : Call → Call → Bool
-same_call c d = c.op == d.op && c.arg == d.arg
+-- whether a number is the one that is said; where none is said, any is meant
+abbrev pub agrees : Option ℕ → ℕ → Bool
+agrees (Some m) n = m == n
+agrees None n = true
 
--- whether two entries are the same
-abbrev pub same_entry : Entry → Entry → Bool
-same_entry (entries.Value m) (entries.Value n) = m == n
-same_entry (entries.Bytes a) (entries.Bytes b) = bytes_eq a b
-same_entry (entries.Aborted a) (entries.Aborted b) = same_bool a b
-same_entry (entries.Request m c) (entries.Request n d) = m.0 == n.0 && same_call c d
-same_entry (entries.Reply m e r) (entries.Reply n f s) = m.0 == n.0 && e == f && r == s
-same_entry entries.NoMessage entries.NoMessage = true
-same_entry (entries.Dropped m c) (entries.Dropped n d) = m.0 == n.0 && same_call c d
-same_entry (entries.Refused m) (entries.Refused n) = m == n
-same_entry (entries.Failed m) (entries.Failed n) = m == n
-same_entry _ _ = false
+abbrev pub agrees_call : SaidCall → Call → Bool
+agrees_call said call = agrees said.op call.op && agrees said.arg call.arg
+
+-- whether an entry is what is said of it
+abbrev pub fits : Pattern → Entry → Bool
+fits (patterns.Value m) (entries.Value n) = m == n
+fits (patterns.Bytes a) (entries.Bytes b) = bytes_eq a b
+fits (patterns.Aborted a) (entries.Aborted b) = same_bool a b
+fits (patterns.Request m c) (entries.Request n d) = m.0 == n.0 && agrees_call c d
+fits (patterns.Reply m e r) (entries.Reply n f s) = m.0 == n.0 && agrees e f && agrees r s
+fits patterns.NoMessage entries.NoMessage = true
+fits (patterns.Dropped m c) (entries.Dropped n d) = m.0 == n.0 && agrees_call c d
+fits (patterns.Refused m) (entries.Refused n) = agrees m n
+fits _ _ = false
 
 abbrev pub same_thread : ThreadId → ThreadId → Bool
 same_thread s t = s.cpu.0 == t.cpu.0 && s.thread == t.thread
 
--- whether a log has an entry
-abbrev pub has_entry : Entry → List Entry → Bool
-has_entry entry [] = false
-has_entry entry (e ∷ es) = same_entry e entry || has_entry entry es
+-- whether a log has such an entry
+abbrev pub has_entry : Pattern → List Entry → Bool
+has_entry pattern [] = false
+has_entry pattern (e ∷ es) = fits pattern e || has_entry pattern es
 
--- whether this is the line of a thread, and its log has an entry
-abbrev pub has_logged : ThreadId → Entry → ThreadLine → Bool
-has_logged id entry line = same_thread line.id id && has_entry entry line.log
+-- whether this is the line of a thread, and its log has such an entry
+abbrev pub has_logged : ThreadId → Pattern → ThreadLine → Bool
+has_logged id pattern line = same_thread line.id id && has_entry pattern line.log
 
--- whether this is the line of a thread, and its log is full: it has 32 entries, and later ones aren't kept
+-- whether a log is full: it has 32 entries, and later ones aren't kept
+abbrev pub has_full_log : ThreadLine → Bool
+has_full_log line = nat_le LOG_LIMIT (length line.log)
+
+-- whether this is the line of a thread, and its log is full
 abbrev pub is_full : ThreadId → ThreadLine → Bool
-is_full id line = same_thread line.id id && nat_le LOG_LIMIT (length line.log)
+is_full id line = same_thread line.id id && has_full_log line
 
 -- whether this is the line of a thread that stands so
 abbrev pub has_state : ThreadId → ClaimedState → ThreadLine → Bool
 has_state id wanted line = same_thread line.id id && is_in_state wanted line.state
 
--- whether a thread was ended by this fault, has this entry, has a full log, stands so
+-- whether a thread was ended by this fault, has such an entry, has a full log, stands so
 abbrev pub any_faulted : ℕ → List ThreadLine → Bool
 any_faulted n [] = false
 any_faulted n (line ∷ lines) = has_faulted n line.state || any_faulted n lines
 
-abbrev pub any_logged : ThreadId → Entry → List ThreadLine → Bool
-any_logged id entry [] = false
-any_logged id entry (line ∷ lines) = has_logged id entry line || any_logged id entry lines
+abbrev pub any_logged : ThreadId → Pattern → List ThreadLine → Bool
+any_logged id pattern [] = false
+any_logged id pattern (line ∷ lines) = has_logged id pattern line || any_logged id pattern lines
 
 abbrev pub any_full : ThreadId → List ThreadLine → Bool
 any_full id [] = false
@@ -132,21 +145,31 @@ lies o msg place = unwrap_or (option_map (λ line. is_place place line.state) (s
 abbrev pub all_ended : Closing → Bool
 all_ended o = list_all is_done o.threads.items
 
--- what is known to be so, or not
-abbrev pub known : Bool → Truth
-known true = Yes
-known false = No
+-- whether a thread has got such an entry: a log that shows one says yes; one that doesn't, and is full, leaves it open
+abbrev pub logged_truth : ThreadId → Pattern → List ThreadLine → Truth
+logged_truth id pattern lines = if any_logged id pattern lines then Yes else (if any_full id lines then Open else No)
 
--- whether a thread has got an entry: a log that shows it says yes; one that doesn't, and is full, leaves it open
-abbrev pub logged_truth : ThreadId → Entry → List ThreadLine → Truth
-logged_truth id entry lines = if any_logged id entry lines then Yes else (if any_full id lines then Open else No)
+-- whether some thread has got such an entry, in the same way
+abbrev pub shows : Pattern → ThreadLine → Bool
+shows pattern line = has_entry pattern line.log
+
+abbrev pub shown_truth : Pattern → List ThreadLine → Truth
+shown_truth pattern lines = if list_any (shows pattern) lines then Yes else (if list_any has_full_log lines then Open else No)
+
+-- whether a fact is so of an outcome
+abbrev pub fact_truth : Closing → Fact → Truth
+fact_truth o facts.Ended = known (all_ended o)
+fact_truth o facts.Stuck = known (not (all_ended o))
+fact_truth o (facts.Faulted n) = known (any_faulted n o.threads.items)
+fact_truth o (facts.Logged id pattern) = logged_truth id pattern o.threads.items
+fact_truth o (facts.Unlogged pattern) = opposite (shown_truth pattern o.threads.items)
+fact_truth o (facts.InState id wanted) = known (any_in_state id wanted o.threads.items)
+fact_truth o (facts.Lies msg place) = known (lies o msg place)
+fact_truth o (facts.Compares c) = known (compared c.relation (sum_of o c.left) (sum_of o c.right))
 
 -- whether what is said of an outcome is so
-abbrev pub truth_of : Closing → Claim → Truth
-truth_of o claims.Ended = known (all_ended o)
-truth_of o claims.Stuck = known (not (all_ended o))
-truth_of o (claims.Faulted n) = known (any_faulted n o.threads.items)
-truth_of o (claims.Logged id entry) = logged_truth id entry o.threads.items
-truth_of o (claims.InState id wanted) = known (any_in_state id wanted o.threads.items)
-truth_of o (claims.Lies msg place) = known (lies o msg place)
-truth_of o (claims.Compares c) = known (compared c.relation (sum_of o c.left) (sum_of o c.right))
+abbrev pub truth_of : Closing → Statement → Truth
+truth_of o (fact f) = fact_truth o f
+truth_of o (each_of a b) = lesser (truth_of o a) (truth_of o b)
+truth_of o (one_of a b) = greater (truth_of o a) (truth_of o b)
+truth_of o (none_of a) = opposite (truth_of o a)

@@ -1,11 +1,12 @@
 -- What a text says of the outcomes of its script, over all orders (own).
-use Rattle.std.specs.Prelude.{Bool, true, false, ℕ, ◌==◌, ◌&&◌, not, List, length, if◌then◌else◌}
+use Rattle.std.specs.Prelude.{Bool, true, false, ℕ, ◌==◌, ◌&&◌, not, List, length, if◌then◌else◌, Option}
 use Rattle.std.specs.List.{list_all, list_any}
+use Rattle.lwkt_report.specs.declared.closings.Closing.{Closing}
 use Rattle.lwkt_text.specs.declared.claims.Expectation.{Expectation}
 use Rattle.lwkt_text.specs.declared.claims.When.{When}
-use Rattle.lwkt_text.specs.declared.claims.When.TheVariants.{Always, Sometimes, Never}
-use Rattle.lwkt_explore.specs.declared.claims.Truth.{Truth}
-use Rattle.lwkt_explore.specs.declared.claims.Truth.TheVariants.{Yes, No, Open}
+use Rattle.lwkt_text.specs.declared.claims.When.TheVariants.{Always, Sometimes, Never, InRounds}
+use Rattle.lwkt_explore.specs.declared.truths.Truth.{Truth}
+use Rattle.lwkt_explore.specs.declared.truths.Truth.TheVariants.{Yes, No, Open}
 use Rattle.lwkt_explore.specs.declared.outcomes.Kind.{Kind}
 use Rattle.lwkt_explore.specs.declared.outcomes.Kind.TheVariants.{Ended, Stuck, Cut}
 use Rattle.lwkt_explore.specs.declared.outcomes.Outcome.{Outcome}
@@ -13,7 +14,8 @@ use Rattle.lwkt_explore.specs.declared.searches.Found.{Found}
 use Rattle.lwkt_explore.specs.Claims.{truth_of}
 use Rattle.lwkt_explore.specs.Extents.{differs, is_complete}
 use Rattle.lwkt_explore.specs.Judgements.{is_no, is_left_open}
-use Rattle.lwkt_explore.specs.Judging.{opposite}
+use Rattle.lwkt_explore.specs.Truths.{opposite}
+use Rattle.lwkt_explore.specs.Rounds.{truth_in_rounds}
 use Rattle.lwkt_explore.specs.Statuses.{status_of_found}
 
 -- whether an outcome wasn't cut: only such ones are judged
@@ -27,11 +29,12 @@ is_yes Yes = true
 is_yes No = false
 is_yes Open = false
 
--- whether a claim that is so decides an expectation, or one that isn't
+-- whether a claim that is so decides an expectation, or one that isn't; no order decides what is said of the run in rounds
 abbrev pub decides_by : When → Truth → Bool
 decides_by Always truth = is_no truth
 decides_by Sometimes truth = is_yes truth
 decides_by Never truth = is_yes truth
+decides_by InRounds truth = false
 
 -- whether an outcome decides an expectation: it breaks what is said of each one or of none, or it is one that shows what is said of one
 abbrev pub decides : Expectation → Outcome → Bool
@@ -46,19 +49,30 @@ abbrev pub truth_decided : When → Truth
 truth_decided Always = No
 truth_decided Sometimes = Yes
 truth_decided Never = No
+truth_decided InRounds = Open
 
--- whether an expectation holds: an outcome that decides it says so; where none does, the opposite is so if every order was tried and no
--- outcome leaves it open, and else it isn't decided
-abbrev pub truth_over_orders : Found → Expectation → Truth
-truth_over_orders found e =
+-- whether what is said of the outcomes of all orders is so: an outcome that decides it says so; where none does, the opposite is so if
+-- every order was tried and no outcome leaves it open, and else it isn't decided
+abbrev pub truth_of_all : Found → Expectation → Truth
+truth_of_all found e =
     if list_any (decides e) found.outcomes.all.items then truth_decided e.when else (
     if is_complete found && not (list_any (leaves_open e) found.outcomes.all.items) then opposite (truth_decided e.when) else Open)
 
-abbrev pub holds : Found → Expectation → Bool
-holds found e = is_yes (truth_over_orders found e)
+-- whether an expectation holds; what is said of the run in rounds does by that alone
+abbrev pub truth_by_when : Option Closing → Found → Expectation → When → Truth
+truth_by_when rounds found e Always = truth_of_all found e
+truth_by_when rounds found e Sometimes = truth_of_all found e
+truth_by_when rounds found e Never = truth_of_all found e
+truth_by_when rounds found e InRounds = truth_in_rounds rounds e.claim
+
+abbrev pub truth_over_orders : Option Closing → Found → Expectation → Truth
+truth_over_orders rounds found e = truth_by_when rounds found e e.when
+
+abbrev pub holds : Option Closing → Found → Expectation → Bool
+holds rounds found e = is_yes (truth_over_orders rounds found e)
 
 -- the status of what was found of a text: of one without expectations that of a script; else 4 where the real machine differs from its
 -- plain machine, 0 where every order was tried and each expectation holds, and 5 where not
-abbrev pub status_of_text : List Expectation → Found → ℕ
-status_of_text expectations found =
-    if length expectations == 0 then status_of_found found else (if differs found then 4 else if is_complete found && list_all (holds found) expectations then 0 else 5)
+abbrev pub status_of_text : List Expectation → Option Closing → Found → ℕ
+status_of_text expectations rounds found =
+    if length expectations == 0 then status_of_found found else (if differs found then 4 else if is_complete found && list_all (holds rounds found) expectations then 0 else 5)

@@ -3,10 +3,11 @@ use Rattle.std.specs.Prelude.{ℕ, ◌==◌, ◌&&◌, not, List, length, Bool, 
 use Rattle.std.specs.List.{list_any}
 use Rattle.lwkt_report.specs.declared.closings.Closing.{Closing}
 use Rattle.lwkt_report.specs.declared.closings.Verdict.{Verdict}
+use Rattle.lwkt_run.specs.declared.modes.Mode.{Mode}
 use Rattle.lwkt_report.specs.declared.closings.Verdict.TheVariants as verdicts
 use Rattle.lwkt_text.specs.declared.claims.Expectation.{Expectation}
-use Rattle.lwkt_explore.specs.declared.claims.Truth.{Truth}
-use Rattle.lwkt_explore.specs.declared.claims.Truth.TheVariants.{Yes, No, Open}
+use Rattle.lwkt_explore.specs.declared.truths.Truth.{Truth}
+use Rattle.lwkt_explore.specs.declared.truths.Truth.TheVariants.{Yes, No, Open}
 use Rattle.lwkt_explore.specs.declared.judgements.Judgement.{Judgement}
 use Rattle.lwkt_explore.specs.declared.judgements.Judgement.TheVariants.{Met, TurnsOut, Unlawful, Unmet, NotDecided}
 use Rattle.lwkt_explore.specs.Claims.{all_ended}
@@ -28,20 +29,20 @@ is_left_open No = false
 is_left_open Open = true
 
 -- whether what is said of a run's outcome isn't so
-abbrev pub is_unmet : Closing → Expectation → Bool
-is_unmet outcome e = is_no (truth_in_run e outcome)
+abbrev pub is_unmet : Mode → Closing → Expectation → Bool
+is_unmet mode outcome e = is_no (truth_in_run e mode outcome)
 
 -- whether the report doesn't tell
-abbrev pub is_open : Closing → Expectation → Bool
-is_open outcome e = is_left_open (truth_in_run e outcome)
+abbrev pub is_open : Mode → Closing → Expectation → Bool
+is_open mode outcome e = is_left_open (truth_in_run e mode outcome)
 
 -- unlawful before all else; then what is said of the outcome decides, something that isn't so before something that is open; and where
 -- nothing is said, whether every thread has ended
-abbrev pub judgement_of : List Expectation → Closing → Judgement
-judgement_of expectations outcome =
+abbrev pub judgement_of : List Expectation → Mode → Closing → Judgement
+judgement_of expectations mode outcome =
     if is_unlawful outcome.verdict then Unlawful else (
-    if list_any (is_unmet outcome) expectations then Unmet else (
-    if list_any (is_open outcome) expectations then NotDecided else (
+    if list_any (is_unmet mode outcome) expectations then Unmet else (
+    if list_any (is_open mode outcome) expectations then NotDecided else (
     if length expectations == 0 && not (all_ended outcome) then TurnsOut else Met)))
 
 -- the exit status of a program that ran the script

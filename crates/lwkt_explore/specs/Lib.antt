@@ -1,14 +1,17 @@
 pub mod Claims
 pub mod Expectations
 pub mod Extents
+pub mod Jsons
 pub mod Judgements
 pub mod Judging
 pub mod Laws
 pub mod Orders
 pub mod Outcomes
 pub mod Readings
+pub mod Rounds
 pub mod Searches
 pub mod Statuses
 pub mod Texts
 pub mod Tries
+pub mod Truths
 pub mod Verdicts

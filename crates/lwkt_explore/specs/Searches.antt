@@ -8,14 +8,16 @@ use Rattle.lwkt_plain.specs.Stores.{form_turn, kept, IsStore}
 use Rattle.lwkt_script.specs.declared.scripts.Script.{Script}
 use Rattle.lwkt_search.specs.declared.searches.Found.{Found as Searched}
 use Rattle.lwkt_search.specs.declared.searches.Outcome.{Outcome as Last}
-use Rattle.lwkt_search.specs.Graphs.{nodes_of, AllTried, IsGrown}
+use Rattle.lwkt_search.specs.declared.searches.Task.{Task}
+use Rattle.lwkt_search.specs.Graphs.{nodes_of, IsGrown}
 use Rattle.lwkt_search.specs.Losses.{IsLost}
 use Rattle.lwkt_search.specs.Runs.{run, all_told, told_of, HasOutcome, IsLast, IsOrder, IsOutcome, IsShortest}
+use Rattle.lwkt_explore.specs.declared.explorers.Explorer.{Explorer}
 use Rattle.lwkt_explore.specs.declared.outcomes.Kind.TheVariants.{Stuck}
 use Rattle.lwkt_explore.specs.declared.outcomes.Outcomes.{Outcomes}
 use Rattle.lwkt_explore.specs.declared.searches.Found.{Found}
 use Rattle.lwkt_explore.specs.Extents.{is_complete}
-use Rattle.lwkt_explore.specs.Outcomes.{HasReport}
+use Rattle.lwkt_explore.specs.Outcomes.{AreOutcomes, AreShort, HasReport}
 use Rattle.std.specs.Prelude.{true}
 
 -- the state of the plain machine that an order of turns leads to
@@ -49,17 +51,24 @@ IsUnended script states place = HasEnded script (slice_index_or states place (op
 -- what a search of a script's plain machine found, by orders of so many turns and with so many states at the most
 pub record IsSearched (script : Script) (cpus turns bound : ℕ) (found : Searched Store) : Type 0 where
   pub store : IsStore found.growth.store
-  pub noted : length found.growth.links.items ≡ length (kept found.growth.store)
-  pub grown : IsGrown (form_turn script) (opened script) cpus (nodes_of (kept found.growth.store) found.growth.links.items) found.growth.next.items found.growth.gone_on
-  pub each : found.growth.met ≡ None → found.growth.gone_on ≡ length found.growth.links.items
+  pub noted : length found.growth.links ≡ length (kept found.growth.store)
+  pub grown : IsGrown (form_turn script) (HasEnded script) (opened script) cpus (nodes_of (kept found.growth.store) found.growth.links) found.growth.onward.items found.growth.is_whole found.growth.gone_on
+  pub each : found.growth.met ≡ None → found.growth.gone_on ≡ length found.growth.links
   pub whole : IsTrue found.growth.is_whole → found.growth.met ≡ None
-  pub tried : IsTrue found.growth.is_whole → AllTried cpus found.growth.next.items found.growth.gone_on
   pub places : All (λ (one : Last). one.place < length (kept found.growth.store)) found.outcomes.items
   pub short : All (λ (one : Last). length one.order.items ≤ turns) found.outcomes.items
   pub orders : All (λ (one : Last). IsOrder cpus one.order.items) found.outcomes.items
   pub sound : All (λ one. IsOutcome (form_turn script) (HasEnded script) cpus (opened script) one) (all_told (opened script) (kept found.growth.store) found.outcomes.items)
   pub complete : IsTrue found.growth.is_whole → (order : List ℕ) → IsOrder cpus order → IsLastState script cpus (state_after script order) → HasOutcome (state_after script order) (all_told (opened script) (kept found.growth.store) found.outcomes.items)
   pub shortest : IsTrue found.growth.is_whole → All (λ one. IsShortest (form_turn script) cpus (opened script) one) (all_told (opened script) (kept found.growth.store) found.outcomes.items)
+
+-- a task of the script's processors, what it found, and outcomes of the script whose orders are within its turns
+pub record IsUnderWay (script : Script) (task : Task Explorer) (found : Searched Store) (outcomes : Outcomes) : Type 0 where
+  pub is_script : task.machine.script.now ≡ script
+  pub cpus : task.cpus ≡ script.cpus
+  pub searched : IsSearched script task.cpus task.turns task.bound found
+  pub are_outcomes : AreOutcomes script outcomes
+  pub short : AreShort task.turns outcomes
 
 -- a state is told by the report of the run along an order that leads there
 pub record IsToldAt (script : Script) (outcomes : Outcomes) (state : Plain) : Type 0 where

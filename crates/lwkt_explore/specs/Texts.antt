@@ -9,7 +9,8 @@ use Rattle.lwkt_report.specs.Report.{line_feed, spaced_or_dash, numbered_lines, 
 use Rattle.lwkt_told.specs.Called.{called}
 use Rattle.lwkt_told.specs.Circles.{stuck_lines}
 use Rattle.lwkt_told.specs.Told.{told_front}
-use Rattle.lwkt_explore.specs.declared.extents.Bound.TheVariants.{States, Turns, Memory, Stopped, Differs}
+use Rattle.lwkt_explore.specs.declared.extents.Bound.{Bound}
+use Rattle.lwkt_explore.specs.declared.extents.Bound.TheVariants.{States, Turns, Memory, Refused, Stopped, Differs}
 use Rattle.lwkt_explore.specs.declared.extents.Extent.{Extent}
 use Rattle.lwkt_explore.specs.declared.extents.Extent.TheVariants.{Complete, Part, Sampled}
 use Rattle.lwkt_explore.specs.declared.forms.Telling.{Telling}
@@ -150,12 +151,41 @@ abbrev pub tried_text : Tried → List ℕ
 tried_text (TriedStates count) = amount_text count (codes "state") (codes "states")
 tried_text (Orders count) = amount_text count (codes "random order") (codes "random orders")
 
+-- what ended a search, in a word
+abbrev pub bound_text : Bound → List ℕ
+bound_text States = codes "states"
+bound_text Turns = codes "turns"
+bound_text Memory = codes "memory"
+bound_text Refused = codes "memory"
+bound_text Stopped = codes "time"
+bound_text Differs = codes "a difference"
+
+-- what to do then
+abbrev pub advice_text : Bound → List ℕ
+advice_text States = codes "--states gives more"
+advice_text Turns = codes "--turns gives longer orders"
+advice_text Memory = codes "--memory gives more"
+advice_text Refused = codes "there is no more, and --random keeps none"
+advice_text Stopped = codes "--seconds gives more"
+advice_text Differs = codes "please report it"
+
+-- `stopped by BOUND: N states kept; ADVICE`, where something ended the search
+abbrev pub stop_line : Tried → Extent → List ℕ
+stop_line tried Complete = []
+stop_line tried (Part bound) = codes "stopped by " ++ bound_text bound ++ codes ": " ++ tried_text tried ++ codes " kept; " ++ advice_text bound ++ line_feed
+stop_line tried Sampled = []
+
+-- the lost states, if there are any, and what ended the search, if anything did
+abbrev pub end_lines : Found → List ℕ
+end_lines found = option_map_or lost_line found.lost [] ++ stop_line found.tried found.extent
+
 -- whether every order was tried, and if not, why
 abbrev pub extent_text : Extent → List ℕ
 extent_text Complete = codes "complete"
 extent_text (Part States) = codes "a part (states)"
 extent_text (Part Turns) = codes "a part (turns)"
 extent_text (Part Memory) = codes "a part (memory)"
+extent_text (Part Refused) = codes "a part (memory)"
 extent_text (Part Stopped) = codes "a part (stopped)"
 extent_text (Part Differs) = codes "a part (differs)"
 extent_text Sampled = codes "a part"
@@ -165,15 +195,11 @@ abbrev pub sum_line : Found → List ℕ
 sum_line found =
     amount_text (length (by_kind found.outcomes)) (codes "outcome") (codes "outcomes") ++ codes "; " ++ tried_text found.tried ++ codes ", " ++ amount_text found.turns (codes "turn") (codes "turns") ++ codes "; " ++ extent_text found.extent ++ line_feed
 
--- the outcomes, numbered from 1, then the lost states, then the sum
+-- the outcomes, numbered from 1, then the lost states and what ended the search, then the sum
 unfoldable pub text_in : Option Telling → Found → List ℕ
 text_in telling found =
-    numbered_lines (outcome_lines telling found.tried) 1 (by_kind found.outcomes) ++ option_map_or lost_line found.lost [] ++ sum_line found
+    numbered_lines (outcome_lines telling found.tried) 1 (by_kind found.outcomes) ++ end_lines found ++ sum_line found
 
 -- the same in numbers
 abbrev pub text_of_found : Found → List ℕ
 text_of_found found = text_in None found
-
--- the same in the names of a text
-abbrev pub told_of_found : Telling → Found → List ℕ
-told_of_found telling found = text_in (Some telling) found

@@ -4,8 +4,8 @@ use Rattle.lwkt_base.specs.declared.faults.Fault.{Fault}
 use Rattle.lwkt_base.specs.declared.faults.Fault.TheVariants.{Unlawful as UnlawfulFault}
 use Rattle.lwkt_report.specs.declared.closings.Verdict.{Verdict}
 use Rattle.lwkt_report.specs.declared.closings.Verdict.TheVariants.{Closed, Lawful, Unlawful}
-use Rattle.lwkt_explore.specs.declared.claims.Truth.{Truth}
-use Rattle.lwkt_explore.specs.declared.claims.Truth.TheVariants.{Yes, No, Open}
+use Rattle.lwkt_explore.specs.declared.truths.Truth.{Truth}
+use Rattle.lwkt_explore.specs.declared.truths.Truth.TheVariants.{Yes, No, Open}
 
 -- the fault of a run with this verdict, which isn't `lawful`
 abbrev pub IsOfVerdict : Verdict → Fault → Type 0

@@ -9,6 +9,7 @@ use crate::judgements::{Judgement, judgement_of};
 use crate::verdicts::{verdicts_quoted, verdicts_said};
 use lwkt_base::OutOfMemory;
 use lwkt_report::{Closing, report};
+use lwkt_run::Mode;
 use lwkt_text::claims::Expectation;
 use lwkt_told::told;
 use std::alloc::Global;
@@ -24,7 +25,7 @@ pub struct Account {
     pub judgement: Judgement,
 }
 
-/// What is said of a run with this outcome. In the lines of expectations the text is called by the path, where there is one.
+/// What is said of a run, driven so, with this outcome. In the lines of expectations the text is called by the path, where there is one.
 ///
 /// Refused if memory is.
 pub fn account_of(
@@ -32,17 +33,18 @@ pub fn account_of(
     path: Option<&str>,
     bytes: &[u8],
     expectations: &[Expectation],
+    mode: Mode,
     outcome: &Closing,
 ) -> Result<Account, OutOfMemory>
     ensures report { IfOk result (λ account. string_bytes account.report ≡ report_text outcome.now) }
-    ensures judgement { IfOk result (λ account. account.judgement ≡ judgement_of expectations.now outcome.now) }
+    ensures judgement { IfOk result (λ account. account.judgement ≡ judgement_of expectations.now mode outcome.now) }
 {
     let report = report(alloc, outcome)?;
-    let verdicts = verdicts_said(alloc, path, bytes, expectations, outcome)?;
+    let verdicts = verdicts_said(alloc, path, bytes, expectations, mode, outcome)?;
     Ok(Account {
         report,
         verdicts,
-        judgement: judgement_of(expectations, outcome),
+        judgement: judgement_of(expectations, mode, outcome),
     })
 }
 
@@ -56,16 +58,17 @@ pub fn told_account_of(
     paints: bool,
     bytes: &[u8],
     expectations: &[Expectation],
+    mode: Mode,
     outcome: &Closing,
 ) -> Result<Account, OutOfMemory>
     ensures report { IfOk result (λ account. string_bytes account.report ≡ told_text telling.now.names.now telling.now.script.now outcome.now) }
-    ensures judgement { IfOk result (λ account. account.judgement ≡ judgement_of expectations.now outcome.now) }
+    ensures judgement { IfOk result (λ account. account.judgement ≡ judgement_of expectations.now mode outcome.now) }
 {
     let report = told(alloc, telling.names, telling.script, outcome)?;
-    let verdicts = verdicts_quoted(alloc, paints, bytes, expectations, outcome)?;
+    let verdicts = verdicts_quoted(alloc, paints, bytes, expectations, mode, outcome)?;
     Ok(Account {
         report,
         verdicts,
-        judgement: judgement_of(expectations, outcome),
+        judgement: judgement_of(expectations, mode, outcome),
     })
 }

@@ -1,25 +1,17 @@
 //! Whether what a text says of an outcome is so, where the report tells.
 ghost use Rattle.std.specs.Prelude.{◌≡◌};
+ghost use Rattle.std.specs.List.{list_any};
 ghost use Rattle.lwkt_base.specs.Threads.{is_done};
-ghost use Rattle.lwkt_explore.specs.Claims.{is_in_state, is_place, has_faulted, same_call, same_entry, same_thread, has_entry, has_logged, is_full, has_state, any_faulted, any_logged, any_full, any_in_state, related, compared, lies, all_ended, known, logged_truth, truth_of};
+ghost use Rattle.lwkt_explore.specs.Claims.{is_in_state, is_place, has_faulted, agrees, agrees_call, fits, same_thread, has_entry, has_logged, is_full, has_full_log, has_state, any_faulted, any_logged, any_full, any_in_state, related, compared, lies, all_ended, logged_truth, shows, shown_truth, fact_truth, truth_of};
+ghost use Rattle.lwkt_text.specs.ClaimTrees.{statement_of};
 
 use crate::readings::sum_of;
+use crate::truths::{Truth, greater, known, lesser, opposite};
 use lwkt_base::blobs::same_bytes;
 use lwkt_base::limits::LOG_LIMIT;
 use lwkt_base::{Call, Entry, MsgId, MsgState, Owner, ThreadId, ThreadLine, ThreadState};
 use lwkt_report::Closing;
-use lwkt_text::claims::{Claim, ClaimedState, Relation};
-
-/// Whether something is so, as far as a report tells.
-#[derive(Clone, Copy, PartialEq, Eq)]
-pub enum Truth {
-    /// It is so.
-    Yes,
-    /// It isn't.
-    No,
-    /// The report doesn't tell: a log that is full doesn't show an entry, and may lack later ones.
-    Open,
-}
+use lwkt_text::claims::{Claim, ClaimTree, ClaimedState, Fact, Pattern, Relation, SaidCall};
 
 // Whether a thread stands so.
 fn is_in_state(wanted: ClaimedState, state: ThreadState) -> bool
@@ -56,26 +48,55 @@ fn has_faulted(n: u8, state: ThreadState) -> bool
     }
 }
 
-fn same_call(one: Call, other: Call) -> bool
-    ensures { result ≡ same_call one other }
+// Whether a number is the one that is said, if one is.
+fn agrees(said: Option<u64>, part: u64) -> bool
+    ensures { result ≡ agrees said part }
 {
-    one.op == other.op && one.arg == other.arg
+    match said {
+        Some(n) => n == part,
+        None => true,
+    }
 }
 
-// Whether two entries are the same.
-fn same_entry(one: &Entry, other: &Entry) -> bool
-    ensures { result ≡ same_entry one.now other.now }
+fn agrees_short(said: Option<u32>, part: u32) -> bool
+    ensures { result ≡ agrees said part }
 {
-    match (one, other) {
-        (Entry::Value(m), Entry::Value(n)) => *m == *n,
-        (Entry::Bytes(a), Entry::Bytes(b)) => same_bytes(a, b),
-        (Entry::Aborted(a), Entry::Aborted(b)) => *a == *b,
-        (Entry::Request(m, c), Entry::Request(n, d)) => m.0 == n.0 && same_call(*c, *d),
-        (Entry::Reply(m, e, r), Entry::Reply(n, f, s)) => m.0 == n.0 && *e == *f && *r == *s,
-        (Entry::NoMessage, Entry::NoMessage) => true,
-        (Entry::Dropped(m, c), Entry::Dropped(n, d)) => m.0 == n.0 && same_call(*c, *d),
-        (Entry::Refused(m), Entry::Refused(n)) => *m == *n,
-        (Entry::Failed(m), Entry::Failed(n)) => *m == *n,
+    match said {
+        Some(n) => n == part,
+        None => true,
+    }
+}
+
+fn agrees_byte(said: Option<u8>, part: u8) -> bool
+    ensures { result ≡ agrees said part }
+{
+    match said {
+        Some(n) => n == part,
+        None => true,
+    }
+}
+
+fn agrees_call(said: SaidCall, call: Call) -> bool
+    ensures { result ≡ agrees_call said call }
+{
+    agrees_short(said.op, call.op) && agrees(said.arg, call.arg)
+}
+
+// Whether an entry is what is said of it.
+fn fits(pattern: &Pattern, entry: &Entry) -> bool
+    ensures { result ≡ fits pattern.now entry.now }
+{
+    match (pattern, entry) {
+        (Pattern::Value(m), Entry::Value(n)) => *m == *n,
+        (Pattern::Bytes(a), Entry::Bytes(b)) => same_bytes(a, b),
+        (Pattern::Aborted(a), Entry::Aborted(b)) => *a == *b,
+        (Pattern::Request(m, c), Entry::Request(n, d)) => m.0 == n.0 && agrees_call(*c, *d),
+        (Pattern::Reply(m, e, r), Entry::Reply(n, f, s)) => {
+            m.0 == n.0 && agrees_short(*e, *f) && agrees(*r, *s)
+        }
+        (Pattern::NoMessage, Entry::NoMessage) => true,
+        (Pattern::Dropped(m, c), Entry::Dropped(n, d)) => m.0 == n.0 && agrees_call(*c, *d),
+        (Pattern::Refused(m), Entry::Refused(n)) => agrees_byte(*m, *n),
         _ => false,
     }
 }
@@ -86,30 +107,37 @@ fn same_thread(one: ThreadId, other: ThreadId) -> bool
     one.cpu.0 == other.cpu.0 && one.thread == other.thread
 }
 
-// Whether a log has an entry.
-fn has_entry(entry: &Entry, log: &[Entry]) -> bool
-    ensures { result ≡ has_entry entry.now log.now }
+// Whether a log has such an entry.
+fn has_entry(pattern: &Pattern, log: &[Entry]) -> bool
+    ensures { result ≡ has_entry pattern.now log.now }
 {
     for e in log {
-        if same_entry(e, entry) {
+        if fits(pattern, e) {
             return true;
         }
     }
     false
 }
 
-// Whether this is the line of a thread, and its log has an entry.
-fn has_logged(id: ThreadId, entry: &Entry, line: &ThreadLine) -> bool
-    ensures { result ≡ has_logged id entry.now line.now }
+// Whether this is the line of a thread, and its log has such an entry.
+fn has_logged(id: ThreadId, pattern: &Pattern, line: &ThreadLine) -> bool
+    ensures { result ≡ has_logged id pattern.now line.now }
 {
-    same_thread(line.id, id) && has_entry(entry, line.log.as_slice())
+    same_thread(line.id, id) && has_entry(pattern, line.log.as_slice())
+}
+
+// Whether a log is full.
+fn has_full_log(line: &ThreadLine) -> bool
+    ensures { result ≡ has_full_log line.now }
+{
+    line.log.as_slice().len() >= LOG_LIMIT
 }
 
 // Whether this is the line of a thread, and its log is full.
 fn is_full(id: ThreadId, line: &ThreadLine) -> bool
     ensures { result ≡ is_full id line.now }
 {
-    same_thread(line.id, id) && line.log.as_slice().len() >= LOG_LIMIT
+    same_thread(line.id, id) && has_full_log(line)
 }
 
 // Whether this is the line of a thread that stands so.
@@ -131,12 +159,12 @@ fn any_faulted(n: u8, lines: &[ThreadLine]) -> bool
     false
 }
 
-// Whether a thread's log has an entry.
-fn any_logged(id: ThreadId, entry: &Entry, lines: &[ThreadLine]) -> bool
-    ensures { result ≡ any_logged id entry.now lines.now }
+// Whether a thread's log has such an entry.
+fn any_logged(id: ThreadId, pattern: &Pattern, lines: &[ThreadLine]) -> bool
+    ensures { result ≡ any_logged id pattern.now lines.now }
 {
     for line in lines {
-        if has_logged(id, entry, line) {
+        if has_logged(id, pattern, line) {
             return true;
         }
     }
@@ -208,18 +236,11 @@ pub(crate) fn all_ended(outcome: &Closing) -> bool
     outcome.threads.iter().all(|line| line.is_done())
 }
 
-// What is known to be so, or not.
-fn known(so: bool) -> Truth
-    ensures { result ≡ known so }
+// Whether a thread has got such an entry.
+fn logged_truth(id: ThreadId, pattern: &Pattern, lines: &[ThreadLine]) -> Truth
+    ensures { result ≡ logged_truth id pattern.now lines.now }
 {
-    if so { Truth::Yes } else { Truth::No }
-}
-
-// Whether a thread has got this entry.
-fn logged_truth(id: ThreadId, entry: &Entry, lines: &[ThreadLine]) -> Truth
-    ensures { result ≡ logged_truth id entry.now lines.now }
-{
-    if any_logged(id, entry, lines) {
+    if any_logged(id, pattern, lines) {
         return Truth::Yes;
     }
     if any_full(id, lines) {
@@ -228,23 +249,85 @@ fn logged_truth(id: ThreadId, entry: &Entry, lines: &[ThreadLine]) -> Truth
     Truth::No
 }
 
-/// Whether what is said of an outcome is so. A quantity that the outcome doesn't have, or a sum that 64 bits have no room for,
-/// compares with nothing. `Open` of an entry that a log doesn't show which has its 32 entries.
-pub fn truth_of(outcome: &Closing, claim: &Claim) -> Truth
-    ensures { result ≡ truth_of outcome.now claim.now }
+// Whether the log of a thread has such an entry.
+fn shows(pattern: &Pattern, line: &ThreadLine) -> bool
+    ensures { result ≡ shows pattern.now line.now }
+{
+    has_entry(pattern, line.log.as_slice())
+}
+
+// Whether the log of some thread has such an entry.
+fn is_shown(pattern: &Pattern, lines: &[ThreadLine]) -> bool
+    ensures { result ≡ list_any (shows pattern.now) lines.now }
+{
+    lines.iter().any(|line| shows(pattern, line))
+}
+
+// Whether the log of some thread is full.
+fn is_cut(lines: &[ThreadLine]) -> bool
+    ensures { result ≡ list_any has_full_log lines.now }
+{
+    lines.iter().any(|line| has_full_log(line))
+}
+
+// Whether some thread has got such an entry.
+fn shown_truth(pattern: &Pattern, lines: &[ThreadLine]) -> Truth
+    ensures { result ≡ shown_truth pattern.now lines.now }
+{
+    if is_shown(pattern, lines) {
+        return Truth::Yes;
+    }
+    if is_cut(lines) {
+        return Truth::Open;
+    }
+    Truth::No
+}
+
+// Whether a fact is so of an outcome. A quantity that the outcome doesn't have, or a sum that 64 bits have no room for,
+// compares with nothing. `Open` of an entry that a log doesn't show which has its 32 entries.
+fn fact_truth(outcome: &Closing, fact: &Fact) -> Truth
+    ensures { result ≡ fact_truth outcome.now fact.now }
 {
     let threads = outcome.threads.as_slice();
-    match claim {
-        Claim::Ended => known(all_ended(outcome)),
-        Claim::Stuck => known(!all_ended(outcome)),
-        Claim::Faulted(n) => known(any_faulted(*n, threads)),
-        Claim::Logged(id, entry) => logged_truth(*id, entry, threads),
-        Claim::InState(id, wanted) => known(any_in_state(*id, *wanted, threads)),
-        Claim::Lies(msg, place) => known(lies(outcome, *msg, *place)),
-        Claim::Compares(said) => {
+    match fact {
+        Fact::Ended => known(all_ended(outcome)),
+        Fact::Stuck => known(!all_ended(outcome)),
+        Fact::Faulted(n) => known(any_faulted(*n, threads)),
+        Fact::Logged(id, pattern) => logged_truth(*id, pattern, threads),
+        Fact::Unlogged(pattern) => opposite(shown_truth(pattern, threads)),
+        Fact::InState(id, wanted) => known(any_in_state(*id, *wanted, threads)),
+        Fact::Lies(msg, place) => known(lies(outcome, *msg, *place)),
+        Fact::Compares(said) => {
             let left = sum_of(outcome, said.left.as_slice());
             let right = sum_of(outcome, said.right.as_slice());
             known(compared(said.relation, left, right))
         }
     }
+}
+
+// Whether the claim of a tree is so of an outcome.
+fn tree_truth(outcome: &Closing, tree: &ClaimTree) -> Truth
+    ensures { result ≡ truth_of outcome.now (statement_of tree.now) }
+{
+    match tree {
+        ClaimTree::Fact(fact) => fact_truth(outcome, fact),
+        ClaimTree::And(a, b) => {
+            let x = tree_truth(outcome, a);
+            let y = tree_truth(outcome, b);
+            lesser(x, y)
+        }
+        ClaimTree::Or(a, b) => {
+            let x = tree_truth(outcome, a);
+            let y = tree_truth(outcome, b);
+            greater(x, y)
+        }
+        ClaimTree::Not(a) => opposite(tree_truth(outcome, a)),
+    }
+}
+
+/// Whether what is said of an outcome is so, as far as its report tells.
+pub fn truth_of(outcome: &Closing, claim: &Claim) -> Truth
+    ensures { result ≡ truth_of outcome.now claim.now }
+{
+    tree_truth(outcome, claim.tree())
 }

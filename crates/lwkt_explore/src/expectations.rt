@@ -2,13 +2,15 @@
 ghost use Rattle.std.specs.Prelude.{◌≡◌};
 ghost use Rattle.std.specs.List.{list_all, list_any, find};
 ghost use Rattle.std.specs.Option.{option_copied};
-ghost use Rattle.lwkt_explore.specs.Expectations.{is_final, decides_by, decides, leaves_open, truth_decided, truth_over_orders, holds, status_of_text};
+ghost use Rattle.lwkt_explore.specs.Expectations.{is_final, decides_by, decides, leaves_open, truth_decided, truth_of_all, truth_over_orders, holds, status_of_text};
 
-use crate::claims::{Truth, truth_of};
-use crate::judging::opposite;
+use crate::claims::truth_of;
 use crate::outcomes::{Kind, Outcome};
+use crate::rounds::truth_in_rounds;
 use crate::searches::Found;
 use crate::statuses::status_of_found;
+use crate::truths::{Truth, opposite};
+use lwkt_report::Closing;
 use lwkt_text::claims::{Expectation, When};
 
 // Whether an outcome wasn't cut: only such ones are judged.
@@ -28,6 +30,7 @@ fn decides_by(when: When, truth: Truth) -> bool
     match when {
         When::Always => matches!(truth, Truth::No),
         When::Sometimes | When::Never => matches!(truth, Truth::Yes),
+        When::InRounds => false,
     }
 }
 
@@ -66,8 +69,8 @@ fn is_left_open(expectation: &Expectation, outcomes: &[Outcome]) -> bool
 }
 
 /// The first outcome that decides an expectation: that breaks an `always` or a `never`, or shows a `sometimes`. One that was cut
-/// decides nothing. `None` if there is no such outcome. Among the outcomes of a search, which come by the length of their orders,
-/// no other such one has a shorter order.
+/// decides nothing, and none decides what is said of the run in rounds. `None` if there is no such outcome. Among the outcomes of a
+/// search, which come by the length of their orders, no other such one has a shorter order.
 pub fn deciding<'a>(expectation: &Expectation, outcomes: &'a [Outcome]) -> Option<&'a Outcome>
     ensures { option_copied result ≡ find (decides expectation.now) outcomes.now }
 {
@@ -83,14 +86,13 @@ fn truth_decided(when: When) -> Truth
     match when {
         When::Always | When::Never => Truth::No,
         When::Sometimes => Truth::Yes,
+        When::InRounds => Truth::Open,
     }
 }
 
-/// Whether an expectation of a text holds over all orders, by what was found. An `always` or a `never` doesn't if an outcome decides it,
-/// and a `sometimes` does. If none decides it, it is the other way round where every order was tried and no outcome leaves it open; else
-/// it is `Open`.
-pub fn truth_over_orders(expectation: &Expectation, found: &Found) -> Truth
-    ensures { result ≡ truth_over_orders found.now expectation.now }
+// Whether what is said of the outcomes of all orders is so.
+fn truth_of_all(expectation: &Expectation, found: &Found) -> Truth
+    ensures { result ≡ truth_of_all found.now expectation.now }
 {
     let outcomes = found.outcomes.all.as_slice();
     if is_decided(expectation, outcomes) {
@@ -102,26 +104,42 @@ pub fn truth_over_orders(expectation: &Expectation, found: &Found) -> Truth
     Truth::Open
 }
 
-// Whether an expectation holds.
-fn holds(expectation: &Expectation, found: &Found) -> bool
-    ensures { result ≡ holds found.now expectation.now }
+/// Whether an expectation of a text holds over all orders, by what was found. An `always` or a `never` doesn't if an outcome decides it,
+/// and a `sometimes` does. If none decides it, it is the other way round where every order was tried and no outcome leaves it open; else
+/// it is `Open`. What is said of the run in rounds holds if it is so of the outcome of that alone.
+pub fn truth_over_orders(
+    expectation: &Expectation,
+    rounds: &Option<Closing>,
+    found: &Found,
+) -> Truth
+    ensures { result ≡ truth_over_orders rounds.now found.now expectation.now }
 {
-    matches!(truth_over_orders(expectation, found), Truth::Yes)
+    match expectation.when {
+        When::Always | When::Sometimes | When::Never => truth_of_all(expectation, found),
+        When::InRounds => truth_in_rounds(rounds, &expectation.claim),
+    }
+}
+
+// Whether an expectation holds.
+fn holds(expectation: &Expectation, rounds: &Option<Closing>, found: &Found) -> bool
+    ensures { result ≡ holds rounds.now found.now expectation.now }
+{
+    matches!(truth_over_orders(expectation, rounds, found), Truth::Yes)
 }
 
 // Whether all that a text says holds.
-fn all_hold(expectations: &[Expectation], found: &Found) -> bool
-    ensures { result ≡ list_all (holds found.now) expectations.now }
+fn all_hold(expectations: &[Expectation], rounds: &Option<Closing>, found: &Found) -> bool
+    ensures { result ≡ list_all (holds rounds.now found.now) expectations.now }
 {
     expectations
         .iter()
-        .all(|expectation| holds(expectation, found))
+        .all(|expectation| holds(expectation, rounds, found))
 }
 
 /// The exit status of what was found of a text: of one that expects nothing that of a script, by `status_of_found`; else 4 if the
 /// real machine differs from its plain machine, 0 if every order was tried and all that it expects holds, and 5 if not.
-pub fn status_of_text(expectations: &[Expectation], found: &Found) -> u8
-    ensures { result ≡ status_of_text expectations.now found.now }
+pub fn status_of_text(expectations: &[Expectation], rounds: &Option<Closing>, found: &Found) -> u8
+    ensures { result ≡ status_of_text expectations.now rounds.now found.now }
 {
     if expectations.is_empty() {
         return status_of_found(found);
@@ -129,7 +147,7 @@ pub fn status_of_text(expectations: &[Expectation], found: &Found) -> u8
     if found.differs() {
         return 4;
     }
-    if found.is_complete() && all_hold(expectations, found) {
+    if found.is_complete() && all_hold(expectations, rounds, found) {
         0
     } else {
         5

@@ -1,6 +1,7 @@
 //! The machine of a script as it is searched: its plain machine, and which turns are tried.
 ghost use Rattle.lwkt_plain.specs.Endings.{HasEnded};
 ghost use Rattle.lwkt_plain.specs.Openings.{opened};
+ghost use Rattle.lwkt_plain.specs.Sizes.{bytes_of};
 ghost use Rattle.lwkt_plain.specs.Stores.{form_turn, kept, IsStore};
 
 use crate::choices::{all_of, sets_of};
@@ -36,12 +37,18 @@ impl<'s> Machine for Explorer<'s> {
 
     ghost is_sound = { λ m s. IsStore s };
 
+    ghost bytes_of = { λ m s. bytes_of m.script.now s };
+
     fn turn(&self, store: &mut Store, at: usize, cpu: u8) -> Result<usize, Refusal> {
         store.turn(self.script, at, cpu)
     }
 
     fn has_ended(&self, store: &Store, at: usize) -> bool {
         store.has_ended(self.script, at)
+    }
+
+    fn bytes(&self, store: &Store) -> u64 {
+        store.bytes(self.script)
     }
 
     fn sets(&self, store: &Store, at: usize) -> [u8; 8] {

@@ -7,12 +7,25 @@ pub enum Bound {
     States,
     /// An order had as many turns as it may have, and a further turn led on.
     Turns,
-    /// Memory was refused.
+    /// What was kept took more bytes than it may.
     Memory,
+    /// Memory was refused.
+    Refused,
     /// Who looks on ended it.
     Stopped,
     /// The machine didn't end as its plain machine did.
     Differs,
+}
+
+/// What room a search had for what it keeps.
+#[derive(Clone, Copy, PartialEq, Eq)]
+pub(crate) enum Room {
+    /// As much as it took.
+    Enough,
+    /// Less than it would have taken: it was stopped for that.
+    Full,
+    /// Memory was refused, so it began anew with less.
+    Refused,
 }
 
 /// Whether every order was tried, and if not, what ended the search.

@@ -43,8 +43,8 @@ pub(crate) fn is_first(before: &[Outcome], outcome: &Outcome, kind: Kind) -> boo
     !is_grouped(before, outcome) && outcome.kind == kind
 }
 
-// How many of the orders led to the outcome of a place.
-fn count_at(outcomes: &Outcomes, place: usize) -> u64
+/// How many of the orders led to the outcome of a place.
+pub(crate) fn count_at(outcomes: &Outcomes, place: usize) -> u64
     ensures { result ≡ get_or outcomes.now.counts.items place 0 }
 {
     outcomes.counts.get(place).copied().unwrap_or(0)
@@ -66,8 +66,8 @@ pub(crate) fn group_count(outcomes: &Outcomes, place: usize, outcome: &Outcome) 
     total
 }
 
-// Where a message is, in a word.
-fn owner_word(owner: Owner) -> &'static str
+/// Where a message is, in a word.
+pub(crate) fn owner_word(owner: Owner) -> &'static str
     ensures { result.now ≡ owner_text owner }
 {
     match owner {

@@ -2,7 +2,7 @@
 ghost use Rattle.std.specs.Prelude.{◌≡◌, ◌+◌, ◌<◌, ◌≤◌, ◌++◌, OnOk, IfOk, length, string_bytes};
 ghost use Rattle.std.specs.Option.{option_copied};
 ghost use Rattle.lwkt_report.specs.Report.{numbered_lines};
-ghost use Rattle.lwkt_explore.specs.Texts.{order_bytes, kind_text, count_text, why_line, group_at, outcome_lines, of_kind, by_kind, lost_line, tried_text, extent_text, sum_line, report_lines, why_lines, text_in, text_of_found, told_of_found};
+ghost use Rattle.lwkt_explore.specs.Texts.{order_bytes, kind_text, count_text, why_line, group_at, outcome_lines, of_kind, by_kind, lost_line, tried_text, bound_text, advice_text, stop_line, end_lines, extent_text, sum_line, report_lines, why_lines, text_in, text_of_found};
 
 use crate::extents::{Bound, Extent};
 use crate::forms::{Telling, add_forms, group_count, is_first};
@@ -14,7 +14,8 @@ use lwkt_base::memory::{push_str, put};
 use lwkt_told::{show_front, show_stuck};
 use std::alloc::Global;
 
-fn kind_word(kind: Kind) -> &'static str
+/// A kind, in a word.
+pub(crate) fn kind_word(kind: Kind) -> &'static str
     ensures { result.now ≡ kind_text kind }
 {
     match kind {
@@ -180,6 +181,55 @@ fn add_tried(out: &mut String, tried: Tried) -> Result<(), OutOfMemory>
     }
 }
 
+// What ended a search, in a word.
+fn bound_word(bound: Bound) -> &'static str
+    ensures { result.now ≡ bound_text bound }
+{
+    match bound {
+        Bound::States => "states",
+        Bound::Turns => "turns",
+        Bound::Memory | Bound::Refused => "memory",
+        Bound::Stopped => "time",
+        Bound::Differs => "a difference",
+    }
+}
+
+// What to do then.
+fn advice_of(bound: Bound) -> &'static str
+    ensures { result.now ≡ advice_text bound }
+{
+    match bound {
+        Bound::States => "--states gives more",
+        Bound::Turns => "--turns gives longer orders",
+        Bound::Memory => "--memory gives more",
+        Bound::Refused => "there is no more, and --random keeps none",
+        Bound::Stopped => "--seconds gives more",
+        Bound::Differs => "please report it",
+    }
+}
+
+// What ended the search, if anything did.
+fn add_stop(out: &mut String, tried: Tried, extent: Extent) -> Result<(), OutOfMemory>
+    ensures { OnOk result (string_bytes out.new ≡ string_bytes out.old ++ stop_line tried extent) }
+{
+    let Extent::Part(bound) = extent else {
+        return Ok(());
+    };
+    put(out, ("stopped by ", bound_word(bound), ": "))?;
+    add_tried(out, tried)?;
+    put(out, (" kept; ", advice_of(bound), "\n"))
+}
+
+// The lost states, if there are any, and what ended the search, if anything did.
+fn add_end(out: &mut String, found: &Found) -> Result<(), OutOfMemory>
+    ensures { OnOk result (string_bytes out.new ≡ string_bytes out.old ++ end_lines found.now) }
+{
+    if let Some(lost) = &found.lost {
+        add_lost(out, lost)?;
+    }
+    add_stop(out, found.tried, found.extent)
+}
+
 // Whether every order was tried, and if not, why.
 fn extent_word(extent: Extent) -> &'static str
     ensures { result.now ≡ extent_text extent }
@@ -188,7 +238,7 @@ fn extent_word(extent: Extent) -> &'static str
         Extent::Complete => "complete",
         Extent::Part(Bound::States) => "a part (states)",
         Extent::Part(Bound::Turns) => "a part (turns)",
-        Extent::Part(Bound::Memory) => "a part (memory)",
+        Extent::Part(Bound::Memory | Bound::Refused) => "a part (memory)",
         Extent::Part(Bound::Stopped) => "a part (stopped)",
         Extent::Part(Bound::Differs) => "a part (differs)",
         Extent::Sampled => "a part",
@@ -208,8 +258,14 @@ fn add_sum(out: &mut String, found: &Found, count: usize) -> Result<(), OutOfMem
     put(out, (", ", turns, " ", made, ("; ", whole, "\n")))
 }
 
-// The text of what was found, in the words that are asked for.
-fn text_in(
+/// The text of what was found, in the names of a text, or else in numbers: the outcomes, numbered from 1, the ended ones first, then the
+/// stuck ones, then those that were cut; then the lost states, if there are any, what ended the search, if anything did, and what was
+/// searched (docs/EXPLORE.md). Outcomes of one kind that differ in message lines alone are grouped under one number: the first of them,
+/// and of each other one the message lines that differ. In names reports are as `show_front` of lwkt_told makes them, and of a stuck
+/// outcome why it is, as `show_stuck` does.
+///
+/// Refused if memory is.
+pub fn text_in(
     alloc: Global,
     telling: Option<&Telling<'_>>,
     found: &Found,
@@ -220,34 +276,16 @@ fn text_in(
     let ended = add_kind(&mut out, telling, found, Kind::Ended, 0)?;
     let stuck = add_kind(&mut out, telling, found, Kind::Stuck, ended)?;
     let count = add_kind(&mut out, telling, found, Kind::Cut, stuck)?;
-    if let Some(lost) = &found.lost {
-        add_lost(&mut out, lost)?;
-    }
+    add_end(&mut out, found)?;
     add_sum(&mut out, found, count)?;
     Ok(out)
 }
 
-/// The text of what was found: the outcomes, numbered from 1, the ended ones first, then the stuck ones, then those that were cut; then
-/// the lost states, if there are any, and what was searched (docs/EXPLORE.md). Outcomes of one kind that differ in message lines alone
-/// are grouped under one number: the first of them, and of each other one the message lines that differ.
+/// The same in numbers.
 ///
 /// Refused if memory is.
 pub fn text_of(alloc: Global, found: &Found) -> Result<String, OutOfMemory>
     ensures { IfOk result (λ text. string_bytes text ≡ text_of_found found.now) }
 {
     text_in(alloc, None, found)
-}
-
-/// The same in the names of a text: its reports as `show_front` of lwkt_told makes them, and of a stuck outcome why, as `show_stuck`
-/// does.
-///
-/// Refused if memory is.
-pub fn told_text_of(
-    alloc: Global,
-    telling: &Telling<'_>,
-    found: &Found,
-) -> Result<String, OutOfMemory>
-    ensures { IfOk result (λ text. string_bytes text ≡ told_of_found telling.now found.now) }
-{
-    text_in(alloc, Some(telling), found)
 }

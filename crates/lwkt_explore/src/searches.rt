@@ -1,8 +1,8 @@
 //! The search: over states of the plain machine, breadth first, so that orders are shortest.
-ghost use Rattle.std.specs.Prelude.{◌≡◌, ◌≤◌, ◌<◌, true, false, None, [], length, slice_index_or, All, IsTrue, IsFalse, IfOk, IfErr, IfSome, OnOk};
-ghost use Rattle.lwkt_explore.specs.Extents.{differs, is_complete};
+ghost use Rattle.std.specs.Prelude.{◌≡◌, ◌≤◌, ◌<◌, true, false, None, [], length, All, IsTrue, IsFalse, IfOk, IfErr, IfSome, OnOk};
+ghost use Rattle.lwkt_explore.specs.Extents.{bound_met, bound_met_full, bound_of, bytes_seen, differs, is_complete, room_of};
 ghost use Rattle.lwkt_explore.specs.Outcomes.{AreOnce, AreOutcomes, AreShort, AreWhole, HasEnded, HasReport, RefusesSearch};
-ghost use Rattle.lwkt_explore.specs.Searches.{AreShortest, IsLastAt, IsSearched, IsLostAlong, IsShortestOrder, IsUnended, NoneIsLost, StuckAt, TellsWhole};
+ghost use Rattle.lwkt_explore.specs.Searches.{AreShortest, IsLastAt, IsSearched, IsLostAlong, IsShortestOrder, IsUnderWay, IsUnended, NoneIsLost, StuckAt, TellsWhole};
 ghost use Rattle.lwkt_explore.specs.Tries.{HasTriedStates};
 ghost use Rattle.lwkt_plain.specs.Deadlocks.{IsStandstill, ReadyThreadsWait};
 ghost use Rattle.lwkt_plain.specs.Openings.{opened};
@@ -12,7 +12,7 @@ ghost use Rattle.lwkt_run.specs.Run.{AreThere};
 
 use crate::dives::dive;
 use crate::explorers::Explorer;
-use crate::extents::{Bound, Extent};
+use crate::extents::{Bound, Extent, Room};
 use crate::losses::Lost;
 use crate::mails::Mails;
 use crate::mirrors::stands_as;
@@ -24,7 +24,7 @@ use lwkt_base::{Fault, OutOfMemory};
 use lwkt_machine::Machine;
 use lwkt_plain::{Store, opened_scripts_are_sound, standstills_are_waits};
 use lwkt_script::Script;
-use lwkt_search::{Growth, Refusal, Seen, Task, UNTRIED, lost_states};
+use lwkt_search::{Growth, LAST, Refusal, Seen, Task, lost_states};
 use std::alloc::Global;
 
 // What a search of the plain machine finds.
@@ -37,6 +37,9 @@ pub struct Bounds {
     pub states: usize,
     /// The most turns of an order, a random one too.
     pub turns: usize,
+    /// The most bytes that are kept, by how many states there are and how many parts of each kind they have. It doesn't bound random
+    /// orders.
+    pub bytes: u64,
     /// Each how many-th state that a search went on from is compared with the real machine's: 1 for all, 0 for none.
     pub compared: usize,
 }
@@ -98,10 +101,32 @@ impl Found {
 struct Looking<'w, W> {
     watch: &'w mut W,
     goes_on: bool,
+    // the most bytes that are kept
+    most: u64,
+    // whether more were kept
+    is_full: bool,
+}
+
+// How many bytes a search keeps.
+fn bytes_seen(seen: Seen) -> u64
+    ensures { result ≡ bytes_seen seen }
+{
+    let noted = (seen.states as u64).saturating_mul(12);
+    let rows = seen.turns.saturating_mul(4);
+    seen.bytes.saturating_add(noted.saturating_add(rows))
 }
 
 impl<'w, W: Watch> lwkt_search::Watch for Looking<'w, W> {
-    fn goes_on(&mut self, seen: Seen) -> bool {
+    fn goes_on(&mut self, seen: Seen) -> bool
+        ensures most { self.new.most ≡ self.old.most }
+        ensures room { IsTrue result → bytes_seen seen ≤ self.old.most }
+        ensures full { self.old.most < bytes_seen seen → IsTrue self.new.is_full }
+        ensures kept { bytes_seen seen ≤ self.old.most → self.new.is_full ≡ self.old.is_full }
+    {
+        if self.most < bytes_seen(seen) {
+            self.is_full = true;
+            return false;
+        }
         self.goes_on && self.watch.goes_on(seen)
     }
 }
@@ -133,13 +158,26 @@ fn attempt<'s, L: lwkt_search::Watch>(
     Ok(found)
 }
 
+// What room a search had.
+fn room_of(was_refused: bool, is_full: bool) -> Room
+    ensures { result ≡ room_of was_refused is_full }
+{
+    if was_refused {
+        Room::Refused
+    } else if is_full {
+        Room::Full
+    } else {
+        Room::Enough
+    }
+}
+
 // What the search of the plain machine finds with as much memory as there is: where that is refused, it begins anew with half as many
-// states. Says whether it was.
-fn found_in<'s, L: lwkt_search::Watch>(
+// states, and half as many bytes. Says what room it had.
+fn found_in<'s, 'w, W: Watch>(
     alloc: Global,
     task: &mut Task<Explorer<'s>>,
-    looking: &mut L,
-) -> Option<(Growing, bool)>
+    looking: &mut Looking<'w, W>,
+) -> Option<(Growing, Room)>
     requires sound { IsSound (opened task.old.machine.script.now) }
     ensures machine { task.new.machine ≡ task.old.machine }
     ensures cpus { task.new.cpus ≡ task.old.cpus }
@@ -151,31 +189,46 @@ fn found_in<'s, L: lwkt_search::Watch>(
     let mut was_refused = false;
     while task.bound > 0 {
         if let Ok(found) = attempt(alloc, task, looking) {
-            return Some((found, was_refused));
+            return Some((found, room_of(was_refused, looking.is_full)));
         }
         was_refused = true;
         task.bound /= 2;
+        looking.most /= 2;
     }
     None
 }
 
-// How many turns were made.
-fn turns_in(next: &[u32]) -> u64 {
-    next.iter().filter(|n| **n != UNTRIED).count() as u64
+// The bound that a search met.
+fn bound_met(met: lwkt_search::Bound) -> Bound
+    ensures { result ≡ bound_met met }
+{
+    match met {
+        lwkt_search::Bound::States => Bound::States,
+        lwkt_search::Bound::Turns => Bound::Turns,
+        lwkt_search::Bound::Stopped => Bound::Stopped,
+    }
 }
 
-// What ended a search.
-fn bound_of(met: Option<lwkt_search::Bound>, was_refused: bool) -> Option<Bound>
-    ensures { result ≡ None → met ≡ None }
+// The same of one that was stopped for what it kept, if it was stopped.
+fn bound_met_full(met: lwkt_search::Bound) -> Bound
+    ensures { result ≡ bound_met_full met }
 {
-    if was_refused {
-        return Some(Bound::Memory);
-    }
     match met {
-        None => None,
-        Some(lwkt_search::Bound::States) => Some(Bound::States),
-        Some(lwkt_search::Bound::Turns) => Some(Bound::Turns),
-        Some(lwkt_search::Bound::Stopped) => Some(Bound::Stopped),
+        lwkt_search::Bound::States => Bound::States,
+        lwkt_search::Bound::Turns => Bound::Turns,
+        lwkt_search::Bound::Stopped => Bound::Memory,
+    }
+}
+
+// What ended a search, if anything did.
+fn bound_of(met: Option<lwkt_search::Bound>, room: Room) -> Option<Bound>
+    ensures bound { result ≡ bound_of met room }
+    ensures none { result ≡ None → met ≡ None }
+{
+    match room {
+        Room::Refused => Some(Bound::Refused),
+        Room::Full => Some(bound_met_full(met?)),
+        Room::Enough => Some(bound_met(met?)),
     }
 }
 
@@ -230,31 +283,10 @@ fn tell<W: Watch>(
     Ok(true)
 }
 
-// Whether a turn that was tried leads from a state to one that the search didn't go on from.
-fn leads_further(growth: &Growth<Store>, at: usize, cpus: usize) -> bool {
-    let begin = at.saturating_mul(cpus);
-    for cpu in 0..cpus {
-        let next = growth.next.as_slice().get(begin.saturating_add(cpu));
-        if next.is_some_and(|next| *next != UNTRIED && *next as usize >= growth.gone_on) {
-            return true;
-        }
-    }
-    false
-}
-
-// Whether the order to a state has as many turns as it may have, and a further one leads on.
-fn is_cut(task: &Task<Explorer<'_>>, growth: &Growth<Store>, at: usize) -> bool
-    requires store { IsStore growth.now.store }
-    requires there { at < length (kept growth.now.store) }
-    requires noted { at < length growth.now.links.items }
-    ensures { IsTrue result → (slice_index_or growth.now.links.items at (record { parent = 0; cpu = 0; depth = 0 })).depth ≡ task.now.turns }
-{
-    if growth.links[at].depth as usize != task.turns
-        || growth.store.has_ended(task.machine.script, at)
-    {
-        return false;
-    }
-    leads_further(growth, at, usize::from(task.cpus))
+// Whether a turn that was tried leads from a state that is no last one to one that the search didn't go on from.
+fn leads_further(growth: &Growth<Store>, at: usize) -> bool {
+    let onward = growth.onward.as_slice().get(at);
+    onward.is_some_and(|next| *next != LAST && *next as usize >= growth.gone_on)
 }
 
 // Keeps the outcomes of the orders that have as many turns as they may have, where a further one leads on.
@@ -265,11 +297,7 @@ fn tell_cut<W: Watch>(
     found: &Growing,
     outcomes: &mut Outcomes,
 ) -> Result<(), Fault>
-    requires script { task.now.machine.script.now ≡ script.now }
-    requires cpus { task.now.cpus ≡ script.now.cpus }
-    requires searched { IsSearched script.now task.now.cpus task.now.turns task.now.bound found.now }
-    requires outcomes { AreOutcomes script.now outcomes.old }
-    requires short { AreShort task.now.turns outcomes.old }
+    requires { IsUnderWay script.now task.now found.now outcomes.old }
     ensures found { AreOutcomes script.now outcomes.new }
     ensures short { AreShort task.now.turns outcomes.new }
     ensures once { AreOnce outcomes.old → AreOnce outcomes.new }
@@ -279,11 +307,14 @@ fn tell_cut<W: Watch>(
     if !matches!(found.growth.met, Some(lwkt_search::Bound::Turns)) {
         return Ok(());
     }
-    for at in 0..found.growth.gone_on {
-        if !is_cut(task, &found.growth, at) {
+    for at in found.growth.layer.begin..found.growth.gone_on {
+        if !leads_further(&found.growth, at) {
             continue;
         }
         let order = task.order(alloc, &found.growth, at)?;
+        if order.len() != task.turns {
+            continue;
+        }
         outcomes.add::<W>(alloc, script, order, LastState::Cut)?;
     }
     Ok(())
@@ -320,12 +351,12 @@ fn told_of<W: Watch>(
     ) {
         Ok(true) => {}
         Ok(false) => return Ok(Some(Bound::Differs)),
-        Err(Fault::Memory(_)) => return Ok(Some(Bound::Memory)),
+        Err(Fault::Memory(_)) => return Ok(Some(Bound::Refused)),
         Err(fault) => return Err(fault),
     }
     match tell_cut::<W>(alloc, script, task, found, outcomes) {
         Ok(()) => Ok(None),
-        Err(Fault::Memory(_)) => Ok(Some(Bound::Memory)),
+        Err(Fault::Memory(_)) => Ok(Some(Bound::Refused)),
         Err(fault) => Err(fault),
     }
 }
@@ -344,12 +375,8 @@ fn stands_at<W: Watch>(
     at: usize,
     outcomes: &mut Outcomes,
 ) -> Result<bool, Fault>
-    requires script { task.now.machine.script.now ≡ script.now }
-    requires cpus { task.now.cpus ≡ script.now.cpus }
-    requires searched { IsSearched script.now task.now.cpus task.now.turns task.now.bound found.now }
+    requires way { IsUnderWay script.now task.now found.now outcomes.old }
     requires there { at < found.now.growth.gone_on }
-    requires outcomes { AreOutcomes script.now outcomes.old }
-    requires short { AreShort task.now.turns outcomes.old }
     ensures found { AreOutcomes script.now outcomes.new }
     ensures short { AreShort task.now.turns outcomes.new }
     ensures once { AreOnce outcomes.old → AreOnce outcomes.new }
@@ -375,11 +402,7 @@ fn stands_everywhere<W: Watch>(
     each: usize,
     outcomes: &mut Outcomes,
 ) -> Result<bool, Fault>
-    requires script { task.now.machine.script.now ≡ script.now }
-    requires cpus { task.now.cpus ≡ script.now.cpus }
-    requires searched { IsSearched script.now task.now.cpus task.now.turns task.now.bound found.now }
-    requires outcomes { AreOutcomes script.now outcomes.old }
-    requires short { AreShort task.now.turns outcomes.old }
+    requires { IsUnderWay script.now task.now found.now outcomes.old }
     ensures found { AreOutcomes script.now outcomes.new }
     ensures short { AreShort task.now.turns outcomes.new }
     ensures once { AreOnce outcomes.old → AreOnce outcomes.new }
@@ -403,11 +426,7 @@ fn compared<W: Watch>(
     each: usize,
     outcomes: &mut Outcomes,
 ) -> Result<Option<Bound>, Fault>
-    requires script { task.now.machine.script.now ≡ script.now }
-    requires cpus { task.now.cpus ≡ script.now.cpus }
-    requires searched { IsSearched script.now task.now.cpus task.now.turns task.now.bound found.now }
-    requires outcomes { AreOutcomes script.now outcomes.old }
-    requires short { AreShort task.now.turns outcomes.old }
+    requires { IsUnderWay script.now task.now found.now outcomes.old }
     ensures found { AreOutcomes script.now outcomes.new }
     ensures short { AreShort task.now.turns outcomes.new }
     ensures once { AreOnce outcomes.old → AreOnce outcomes.new }
@@ -417,7 +436,7 @@ fn compared<W: Watch>(
     match stands_everywhere::<W>(alloc, script, task, found, each, outcomes) {
         Ok(true) => Ok(None),
         Ok(false) => Ok(Some(Bound::Differs)),
-        Err(Fault::Memory(_)) => Ok(Some(Bound::Memory)),
+        Err(Fault::Memory(_)) => Ok(Some(Bound::Refused)),
         Err(fault) => Err(fault),
     }
 }
@@ -426,14 +445,15 @@ fn compared<W: Watch>(
 fn lost_in(
     alloc: Global,
     task: &Task<Explorer<'_>>,
-    found: &Growing,
-) -> Result<Option<Lost>, OutOfMemory>
-    requires searched { IsSearched task.now.machine.script.now task.now.cpus task.now.turns task.now.bound found.now }
-    requires all { found.now.growth.met ≡ None }
-    ensures none { IfOk result (λ lost. IsTrue found.now.growth.is_whole → lost ≡ None → NoneIsLost task.now.machine.script.now task.now.cpus) }
-    ensures some { IfOk result (λ lost. IsTrue found.now.growth.is_whole → IfSome lost (λ one. IsLostAlong task.now.machine.script.now task.now.cpus one.order.items)) }
+    found: Growing,
+) -> Result<Option<Lost>, Refusal>
+    requires searched { IsSearched task.now.machine.script.now task.now.cpus task.now.turns task.now.bound found }
+    requires all { found.growth.met ≡ None }
+    ensures none { IfOk result (λ lost. IsTrue found.growth.is_whole → lost ≡ None → NoneIsLost task.now.machine.script.now task.now.cpus) }
+    ensures some { IfOk result (λ lost. IsTrue found.growth.is_whole → IfSome lost (λ one. IsLostAlong task.now.machine.script.now task.now.cpus one.order.items)) }
 {
-    let lost = lost_states(task, alloc, &found.growth)?;
+    let mut found = found;
+    let lost = lost_states(task, alloc, &mut found.growth)?;
     let count = lost.len();
     match lost.as_slice().first() {
         None => Ok(None),
@@ -446,7 +466,7 @@ fn lost_in(
 
 // How many states were kept, of at most so many.
 fn states_in(growth: &Growth<Store>, bound: usize) -> Tried
-    requires some { 0 < length growth.now.links.items }
+    requires some { 0 < length growth.now.links }
     requires bound { 0 < bound }
     ensures { HasTriedStates bound result }
 {
@@ -454,19 +474,17 @@ fn states_in(growth: &Growth<Store>, bound: usize) -> Tried
 }
 
 // The end of a search that a bound ended.
-fn part_of(task: &Task<Explorer<'_>>, found: &Growing, outcomes: Outcomes, bound: Bound) -> Found
-    requires some { 0 < length found.now.growth.links.items }
-    requires bound { 0 < task.now.bound }
+fn part_of(tried: Tried, turns: u64, outcomes: Outcomes, bound: Bound) -> Found
     ensures outcomes { result.outcomes ≡ outcomes }
     ensures part { is_complete result ≡ false }
     ensures lost { result.lost ≡ None }
     ensures open { IsFalse result.is_whole }
-    ensures tried { HasTriedStates task.now.bound result.tried }
+    ensures tried { result.tried ≡ tried }
 {
     Found {
         outcomes,
-        tried: states_in(&found.growth, task.bound),
-        turns: turns_in(found.growth.next.as_slice()),
+        tried,
+        turns,
         extent: Extent::Part(bound),
         is_whole: false,
         lost: None,
@@ -474,36 +492,43 @@ fn part_of(task: &Task<Explorer<'_>>, found: &Growing, outcomes: Outcomes, bound
 }
 
 // The end of a search that no bound ended, with the outcomes of all that it found.
-fn whole_of(alloc: Global, task: &Task<Explorer<'_>>, found: &Growing, outcomes: Outcomes) -> Found
-    requires bound { 0 < task.now.bound }
-    requires searched { IsSearched task.now.machine.script.now task.now.cpus task.now.turns task.now.bound found.now }
-    requires all { found.now.growth.met ≡ None }
+fn whole_of(
+    alloc: Global,
+    task: &Task<Explorer<'_>>,
+    found: Growing,
+    tried: Tried,
+    outcomes: Outcomes,
+) -> Found
+    requires searched { IsSearched task.now.machine.script.now task.now.cpus task.now.turns task.now.bound found }
+    requires all { found.growth.met ≡ None }
     ensures outcomes { result.outcomes ≡ outcomes }
     ensures ended { is_complete result ≡ true → result.lost ≡ None → HasEnded outcomes }
     ensures lost { is_complete result ≡ false → result.lost ≡ None }
-    ensures whole { IsTrue result.is_whole → (IsTrue found.now.growth.is_whole) × (is_complete result ≡ true) }
+    ensures whole { IsTrue result.is_whole → (IsTrue found.growth.is_whole) × (is_complete result ≡ true) }
     ensures none_lost { IsTrue result.is_whole → result.lost ≡ None → NoneIsLost task.now.machine.script.now task.now.cpus }
     ensures one_lost { IsTrue result.is_whole → IfSome result.lost (λ one. IsLostAlong task.now.machine.script.now task.now.cpus one.order.items) }
     ensures plain { task.now.machine.method ≡ Method.Plain → is_complete result ≡ true → IsTrue result.is_whole }
-    ensures tried { HasTriedStates task.now.bound result.tried }
+    ensures tried { result.tried ≡ tried }
 {
+    let turns = found.growth.turns;
+    let is_whole = found.growth.is_whole;
     // (without reduction each turn was tried, so this can't be)
-    if task.machine.method == Method::Plain && !found.growth.is_whole {
-        return part_of(task, found, outcomes, Bound::Stopped);
+    if task.machine.method == Method::Plain && !is_whole {
+        return part_of(tried, turns, outcomes, Bound::Stopped);
     }
     let lost = match lost_in(alloc, task, found) {
         Ok(lost) => lost,
-        Err(_) => return part_of(task, found, outcomes, Bound::Memory),
+        Err(_) => return part_of(tried, turns, outcomes, Bound::Refused),
     };
     if lost.is_none() && !outcomes.have_ended() {
-        return part_of(task, found, outcomes, Bound::Differs);
+        return part_of(tried, turns, outcomes, Bound::Differs);
     }
     Found {
         outcomes,
-        tried: states_in(&found.growth, task.bound),
-        turns: turns_in(found.growth.next.as_slice()),
+        tried,
+        turns,
         extent: Extent::Complete,
-        is_whole: found.growth.is_whole,
+        is_whole,
         lost,
     }
 }
@@ -513,14 +538,14 @@ fn ended<W: Watch>(
     alloc: Global,
     script: &Script,
     task: &Task<Explorer<'_>>,
-    found: &Growing,
-    was_refused: bool,
+    found: Growing,
+    room: Room,
     each: usize,
 ) -> Result<Found, Fault>
     requires script { task.now.machine.script.now ≡ script.now }
     requires cpus { task.now.cpus ≡ script.now.cpus }
     requires bound { 0 < task.now.bound }
-    requires searched { IsSearched script.now task.now.cpus task.now.turns task.now.bound found.now }
+    requires searched { IsSearched script.now task.now.cpus task.now.turns task.now.bound found }
     ensures found { IfOk result (λ found. AreOutcomes script.now found.outcomes) }
     ensures once { IfOk result (λ found. AreOnce found.outcomes) }
     ensures short { IfOk result (λ found. AreShort task.now.turns found.outcomes) }
@@ -534,16 +559,18 @@ fn ended<W: Watch>(
     ensures refused { IfErr result (λ fault. RefusesSearch script.now fault) }
 {
     let mut outcomes = Outcomes::new(alloc);
-    let told = told_of::<W>(alloc, script, task, found, &mut outcomes)?;
-    if let Some(bound) = compared::<W>(alloc, script, task, found, each, &mut outcomes)? {
-        return Ok(part_of(task, found, outcomes, bound));
+    let tried = states_in(&found.growth, task.bound);
+    let turns = found.growth.turns;
+    let told = told_of::<W>(alloc, script, task, &found, &mut outcomes)?;
+    if let Some(bound) = compared::<W>(alloc, script, task, &found, each, &mut outcomes)? {
+        return Ok(part_of(tried, turns, outcomes, bound));
     }
-    if let Some(bound) = bound_of(found.growth.met, was_refused) {
-        return Ok(part_of(task, found, outcomes, bound));
+    if let Some(bound) = bound_of(found.growth.met, room) {
+        return Ok(part_of(tried, turns, outcomes, bound));
     }
     match told {
-        Some(bound) => Ok(part_of(task, found, outcomes, bound)),
-        None => Ok(whole_of(alloc, task, found, outcomes)),
+        Some(bound) => Ok(part_of(tried, turns, outcomes, bound)),
+        None => Ok(whole_of(alloc, task, found, tried, outcomes)),
     }
 }
 
@@ -581,17 +608,20 @@ fn searched<W: Watch>(
         bound: bounds.states.max(1),
         turns: bounds.turns,
     };
-    let mut looking = Looking { watch, goes_on };
+    let mut looking = Looking {
+        watch,
+        goes_on,
+        most: bounds.bytes,
+        is_full: false,
+    };
     standstills_are_waits();
     match found_in(alloc, &mut task, &mut looking) {
-        Some((found, was_refused)) => {
-            ended::<W>(alloc, script, &task, &found, was_refused, bounds.compared)
-        }
+        Some((found, room)) => ended::<W>(alloc, script, &task, found, room, bounds.compared),
         None => Ok(Found {
             outcomes: Outcomes::new(alloc),
             tried: Tried::States(1),
             turns: 0,
-            extent: Extent::Part(Bound::Memory),
+            extent: Extent::Part(Bound::Refused),
             is_whole: false,
             lost: None,
         }),

@@ -70,6 +70,7 @@ pub(crate) fn seen_of(made: u64, turns: u64) -> Seen {
         states: usize::try_from(made).unwrap_or(usize::MAX),
         frontier: 0,
         turns,
+        bytes: 0,
     }
 }
 

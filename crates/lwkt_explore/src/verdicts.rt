@@ -2,21 +2,22 @@
 ghost use Rattle.std.specs.Prelude.{◌≡◌};
 ghost use Rattle.lwkt_explore.specs.Verdicts.{truth_text};
 
-use crate::claims::Truth;
 use crate::expectations::{deciding, truth_over_orders};
 use crate::judging::truth_in_run;
 use crate::lines::order_text;
 use crate::outcomes::Outcome;
 use crate::quotes::{add_quote, widths_of};
 use crate::searches::Found;
+use crate::truths::Truth;
 use lwkt_base::OutOfMemory;
 use lwkt_refusals::{Page, Place, add_head, place_from};
 use lwkt_report::Closing;
+use lwkt_run::Mode;
 use lwkt_text::claims::Expectation;
 use std::alloc::Global;
 
-// Whether an expectation holds, in words.
-fn words_of(truth: Truth) -> &'static str
+/// Whether an expectation holds, in words.
+pub(crate) fn words_of(truth: Truth) -> &'static str
     ensures { result.now ≡ truth_text truth }
 {
     match truth {
@@ -55,6 +56,7 @@ pub(crate) fn verdicts_said(
     path: Option<&str>,
     bytes: &[u8],
     expectations: &[Expectation],
+    mode: Mode,
     outcome: &Closing,
 ) -> Result<String, OutOfMemory> {
     let mut page = Page::new(alloc);
@@ -63,7 +65,7 @@ pub(crate) fn verdicts_said(
         place = place_from(bytes, place, expectation.at);
         add_head(&mut page, path, place);
         page.add(": ");
-        page.add(words_of(truth_in_run(expectation, outcome)));
+        page.add(words_of(truth_in_run(expectation, mode, outcome)));
         page.add("\n");
     }
     page.whole()
@@ -106,18 +108,22 @@ impl Counts {
     }
 }
 
-fn counts_in_run(expectations: &[Expectation], outcome: &Closing) -> Counts {
+fn counts_in_run(expectations: &[Expectation], mode: Mode, outcome: &Closing) -> Counts {
     let mut counts = Counts::NONE;
     for expectation in expectations {
-        counts = counts.with(truth_in_run(expectation, outcome));
+        counts = counts.with(truth_in_run(expectation, mode, outcome));
     }
     counts
 }
 
-fn counts_over_orders(expectations: &[Expectation], found: &Found) -> Counts {
+fn counts_over_orders(
+    expectations: &[Expectation],
+    rounds: &Option<Closing>,
+    found: &Found,
+) -> Counts {
     let mut counts = Counts::NONE;
     for expectation in expectations {
-        counts = counts.with(truth_over_orders(expectation, found));
+        counts = counts.with(truth_over_orders(expectation, rounds, found));
     }
     counts
 }
@@ -131,6 +137,7 @@ pub(crate) fn verdicts_quoted(
     paints: bool,
     bytes: &[u8],
     expectations: &[Expectation],
+    mode: Mode,
     outcome: &Closing,
 ) -> Result<String, OutOfMemory> {
     let mut page = Page::new(alloc);
@@ -138,12 +145,12 @@ pub(crate) fn verdicts_quoted(
     if expectations.is_empty() {
         return page.whole();
     }
-    add_summary(&mut page, counts_in_run(expectations, outcome));
+    add_summary(&mut page, counts_in_run(expectations, mode, outcome));
     let widths = widths_of(bytes, expectations);
     for expectation in expectations {
         place = place_from(bytes, place, expectation.at);
         add_quote(&mut page, bytes, widths, place, expectation);
-        add_words(&mut page, paints, truth_in_run(expectation, outcome));
+        add_words(&mut page, paints, truth_in_run(expectation, mode, outcome));
         page.add("\n");
     }
     page.whole()
@@ -163,9 +170,10 @@ fn add_truth(
     page: &mut Page,
     paints: bool,
     expectation: &Expectation,
+    rounds: &Option<Closing>,
     found: &Found,
 ) -> Result<(), OutOfMemory> {
-    add_words(page, paints, truth_over_orders(expectation, found));
+    add_words(page, paints, truth_over_orders(expectation, rounds, found));
     if let Some(outcome) = deciding(expectation, found.outcomes.all.as_slice()) {
         add_witness(alloc, page, outcome)?;
     }
@@ -179,29 +187,31 @@ fn add_verdict(
     page: &mut Page,
     place: Place,
     expectation: &Expectation,
+    rounds: &Option<Closing>,
     found: &Found,
 ) -> Result<(), OutOfMemory> {
     add_head(page, None, place);
     page.add(": ");
-    add_truth(alloc, page, false, expectation, found)
+    add_truth(alloc, page, false, expectation, rounds, found)
 }
 
 /// A line for each expectation of a text, by its line there, counted from 1: `LINE: holds` or `LINE: doesn't hold`, and the order
 /// of the outcome that decides it, if one does; `LINE: not decided` where none does and not every order was tried, or an outcome leaves
-/// it open.
+/// it open. What is said of the run in rounds is judged by the outcome of that.
 ///
 /// Refused if memory is.
 pub fn verdicts_of(
     alloc: Global,
     bytes: &[u8],
     expectations: &[Expectation],
+    rounds: &Option<Closing>,
     found: &Found,
 ) -> Result<String, OutOfMemory> {
     let mut page = Page::new(alloc);
     let mut place = Place::FIRST;
     for expectation in expectations {
         place = place_from(bytes, place, expectation.at);
-        add_verdict(alloc, &mut page, place, expectation, found)?;
+        add_verdict(alloc, &mut page, place, expectation, rounds, found)?;
     }
     page.whole()
 }
@@ -214,6 +224,7 @@ pub fn quoted_verdicts_of(
     paints: bool,
     bytes: &[u8],
     expectations: &[Expectation],
+    rounds: &Option<Closing>,
     found: &Found,
 ) -> Result<String, OutOfMemory> {
     let mut page = Page::new(alloc);
@@ -221,12 +232,12 @@ pub fn quoted_verdicts_of(
     if expectations.is_empty() {
         return page.whole();
     }
-    add_summary(&mut page, counts_over_orders(expectations, found));
+    add_summary(&mut page, counts_over_orders(expectations, rounds, found));
     let widths = widths_of(bytes, expectations);
     for expectation in expectations {
         place = place_from(bytes, place, expectation.at);
         add_quote(&mut page, bytes, widths, place, expectation);
-        add_truth(alloc, &mut page, paints, expectation, found)?;
+        add_truth(alloc, &mut page, paints, expectation, rounds, found)?;
     }
     page.whole()
 }

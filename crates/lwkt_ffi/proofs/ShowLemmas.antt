@@ -5,7 +5,7 @@ use Rattle.lwkt_show.specs.declared.options.Counted.{Counted}
 use Rattle.lwkt_show.specs.declared.options.Counted.TheVariants.{Turns, Rounds}
 use Rattle.lwkt_show.specs.declared.options.Options.{Options}
 use Rattle.lwkt_show.specs.declared.options.Rendering.{Rendering}
-use Rattle.lwkt_show.specs.declared.options.Rendering.TheVariants.{Lines, Trace, Picture, Chains}
+use Rattle.lwkt_show.specs.declared.options.Rendering.TheVariants.{Lines, Trace, Picture, Chains, Player, Timeline}
 use Rattle.lwkt_text.specs.declared.inputs.Unread.TheVariants.{Memory}
 use Rattle.lwkt_ffi.specs.declared.shows.Showing.{Showing}
 use Rattle.lwkt_ffi.specs.Alongs.{AreAlong}
@@ -31,6 +31,8 @@ no_rendering Lines is = is
 no_rendering Trace is = other_word (codes "--trace") 116 is refl (λ same. absurd (omega arith))
 no_rendering Picture is = other_word (codes "--svg") 115 is refl (λ same. absurd (omega arith))
 no_rendering Chains is = other_word (codes "--chains") 99 is refl (λ same. absurd (omega arith))
+no_rendering Player is = is
+no_rendering Timeline is = is
 
 no_say : (text : List ℕ) (rest : List (List ℕ)) (options : Options) → Say (codes "--order" ∷ text ∷ rest) options → ⊥
 no_say text [] options is = no_range options.counted is.0.0

@@ -5,7 +5,7 @@ use Rattle.std.specs.Str.Parse.{digits_value, without_leading_plus, IsNumeral}
 use Rattle.lwkt_show.specs.declared.options.Counted.{Counted}
 use Rattle.lwkt_show.specs.declared.options.Counted.TheVariants.{Turns, Rounds}
 use Rattle.lwkt_show.specs.declared.options.Rendering.{Rendering}
-use Rattle.lwkt_show.specs.declared.options.Rendering.TheVariants.{Lines, Trace, Picture, Chains}
+use Rattle.lwkt_show.specs.declared.options.Rendering.TheVariants.{Lines, Trace, Picture, Chains, Player, Timeline}
 use Rattle.lwkt_show.specs.declared.options.Options.{Options}
 
 -- an end of a range that is left out
@@ -30,12 +30,14 @@ pub record IsRange (text : List ℕ) (first last : ℕ) : Type 0 where
   pub is_first : IsBound 0 (before_first is_stop text) first
   pub is_last : IsBound no_end to last
 
--- a word asks for a view; no word asks for lines
+-- a word asks for a view; no word asks for lines, a page or a timeline
 abbrev pub IsRendering : List ℕ → Rendering → Type 0
 IsRendering word Lines = ⊥
 IsRendering word Trace = word ≡ codes "--trace"
 IsRendering word Picture = word ≡ codes "--svg"
 IsRendering word Chains = word ≡ codes "--chains"
+IsRendering word Player = ⊥
+IsRendering word Timeline = ⊥
 
 -- whether a view is of turns that are chosen, and not of the whole run
 abbrev pub has_range : Rendering → Bool
@@ -43,6 +45,8 @@ has_range Lines = true
 has_range Trace = false
 has_range Picture = true
 has_range Chains = false
+has_range Player = true
+has_range Timeline = true
 
 -- the word before a range, by what it counts
 abbrev pub range_word : Counted → List ℕ

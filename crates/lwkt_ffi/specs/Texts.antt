@@ -1,5 +1,5 @@
 -- What the calls of the library answer to C of scripts in either form (own).
-use Rattle.std.specs.Prelude.{◌≡◌, ◌⊎◌, ◌<◌, ℕ, ◌++◌, true, false, List, length, None, Result, Ok, Err, string_bytes, if◌then◌else◌}
+use Rattle.std.specs.Prelude.{◌≡◌, ◌⊎◌, ◌<◌, ℕ, ◌++◌, true, false, List, length, Option, None, Result, Ok, Err, string_bytes, if◌then◌else◌}
 use Rattle.std.specs.Result.{result_err}
 use Rattle.lwkt_base.specs.declared.faults.Fault.{Fault}
 use Rattle.lwkt_base.specs.declared.faults.Fault.TheVariants.{Script as ScriptFault, Limits, Unlawful}
@@ -8,12 +8,14 @@ use Rattle.lwkt_explore.specs.Expectations.{status_of_text as status_of_text_sea
 use Rattle.lwkt_explore.specs.Extents.{is_complete}
 use Rattle.lwkt_explore.specs.declared.searches.Found.{Found}
 use Rattle.lwkt_explore.specs.Outcomes.{AreOutcomes, AreShort, HasEnded, RefusesSearch}
+use Rattle.lwkt_explore.specs.Rounds.{AreRounds}
 use Rattle.lwkt_explore.specs.Texts.{text_of_found}
 use Rattle.lwkt_explore.specs.Tries.{HasTriedStates}
 use Rattle.lwkt_explore.specs.declared.judgements.Judgement.{Judgement}
 use Rattle.lwkt_explore.specs.Judgements.{judgement_of, status_of_judgement}
 use Rattle.lwkt_report.specs.declared.closings.Closing.{Closing}
 use Rattle.lwkt_report.specs.Report.{report_text}
+use Rattle.lwkt_run.specs.declared.modes.Mode.TheVariants.{Turns}
 use Rattle.lwkt_run.specs.Run.{MayClose, DeclinesRun}
 use Rattle.lwkt_script.specs.declared.scripts.Script.{Script}
 use Rattle.lwkt_script.specs.Format.{script_of}
@@ -68,7 +70,7 @@ pub record HasTextReport (text : List ℕ) (judgement : Judgement) (report : Lis
   pub closing : Closing
   pub closes : MayClose (Rounds reading.script.turns) reading.script closing
   pub is_report : report ≡ report_text closing
-  pub is_judgement : judgement ≡ judgement_of reading.expectations closing
+  pub is_judgement : judgement ≡ judgement_of reading.expectations Turns closing
 
 -- why a run of a text is refused: it isn't read; or it is, and its machine isn't opened
 abbrev pub RefusesTextRun : List ℕ → Fault → Type 0
@@ -105,7 +107,9 @@ pub record IsSearch (script : List ℕ) (states turns : ℕ) (search : Search) :
   pub input : Input
   pub read : input_of None script ≡ Ok input
   pub is_found : AreFoundWithin input.script states turns search.found
-  pub is_status : search.status ≡ status_of_text_search input.expectations search.found
+  pub rounds : Option Closing
+  pub are_rounds : AreRounds input.script input.expectations rounds
+  pub is_status : search.status ≡ status_of_text_search input.expectations rounds search.found
 
 -- why a search of a script in either form is refused: it isn't read; or it is, and a search of it is refused
 abbrev pub RefusesOrders : List ℕ → Fault → Type 0

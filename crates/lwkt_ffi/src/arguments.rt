@@ -82,7 +82,10 @@ fn rendering_by(word: &str) -> Option<Rendering>
 fn has_range(rendering: Rendering) -> bool
     ensures { result ≡ has_range rendering }
 {
-    matches!(rendering, Rendering::Lines | Rendering::Picture)
+    matches!(
+        rendering,
+        Rendering::Lines | Rendering::Picture | Rendering::Player | Rendering::Timeline
+    )
 }
 
 // The options of a range and a view, if the range rises, and is that of the whole run where the view is.

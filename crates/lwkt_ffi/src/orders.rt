@@ -2,6 +2,7 @@
 ghost use Rattle.std.specs.Prelude.{◌≡◌, [], IfOk, IfErr};
 ghost use Rattle.std.specs.Result.{result_err};
 ghost use Rattle.lwkt_explore.specs.Outcomes.{RefusesSearch};
+ghost use Rattle.lwkt_explore.specs.Rounds.{AreRounds};
 ghost use Rattle.lwkt_ffi.specs.Texts.{AreFoundWithin, IsSearch, RefusesOrders, ReportsSearch, AnswersOrders, status_of_orders};
 
 use crate::answers::{LwktAnswer, status_of_fault};
@@ -10,9 +11,9 @@ use crate::readings::input_onto;
 use crate::refusals::{say_memory, say_unmade};
 use lwkt_base::{Fault, OutOfMemory};
 use lwkt_explore::{
-    Bounds, Found, Method, Seen, Watch, explore, status_of_text, text_of, verdicts_of,
+    Bounds, Found, Method, Seen, Watch, explore, rounds_of, status_of_text, text_of, verdicts_of,
 };
-use lwkt_report::Page;
+use lwkt_report::{Closing, Page};
 use lwkt_run::TurnsRun;
 use lwkt_script::Script;
 use lwkt_show::whys_of;
@@ -70,6 +71,25 @@ fn explored(
     }
 }
 
+// Makes the run in rounds of a script that was read of these bytes, if a text says something of that; why it is refused is put on a page.
+fn rounds_onto(
+    alloc: Global,
+    bytes: &[u8],
+    input: &Input,
+    page: &mut Page,
+) -> Result<Option<Closing>, Fault>
+    ensures made { IfOk result (AreRounds input.now.script input.now.expectations) }
+    ensures refused { IfErr result (λ fault. RefusesSearch input.now.script fault) }
+{
+    match rounds_of(alloc, &input.script, input.expectations.as_slice()) {
+        Ok(rounds) => Ok(rounds),
+        Err(fault) => {
+            say_unmade(alloc, page, bytes, input, fault);
+            Err(fault)
+        }
+    }
+}
+
 // Tries every order of a script in either form, and judges what a text says of the outcomes; why it is refused is put on a page.
 fn search_of(alloc: Global, script: &[u8], bounds: Bounds, page: &mut Page) -> Result<Search, Fault>
     ensures found { IfOk result (λ search. IsSearch script.now bounds.states bounds.turns search) }
@@ -83,8 +103,13 @@ fn search_of(alloc: Global, script: &[u8], bounds: Bounds, page: &mut Page) -> R
         Ok(found) => found,
         Err(fault) => return Err(fault),
     };
-    let status = status_of_text(input.expectations.as_slice(), &found);
-    match verdicts_of(alloc, script, input.expectations.as_slice(), &found) {
+    let rounds = match rounds_onto(alloc, script, &input, page) {
+        Ok(rounds) => rounds,
+        Err(fault) => return Err(fault),
+    };
+    let expectations = input.expectations.as_slice();
+    let status = status_of_text(expectations, &rounds, &found);
+    match verdicts_of(alloc, script, expectations, &rounds, &found) {
         Ok(verdicts) => Ok(Search {
             found,
             verdicts,
@@ -166,6 +191,7 @@ pub extern "C" fn lwkt_explore_orders(
     let bounds = Bounds {
         states,
         turns,
+        bytes: u64::MAX,
         compared: 1000,
     };
     let outcome = search_onto(alloc, script, bounds, &mut page);

@@ -9,7 +9,7 @@ use crate::refusals::{say_memory, say_unmade};
 use lwkt_base::Fault;
 use lwkt_explore::{Account, Judgement, account_of};
 use lwkt_report::Page;
-use lwkt_run::close_turns;
+use lwkt_run::{Mode, close_turns};
 use lwkt_text::{Input, Reading};
 use std::alloc::Global;
 
@@ -39,7 +39,14 @@ fn account_onto(alloc: Global, text: &[u8], page: &mut Page) -> Result<Account, 
             return Err(fault);
         }
     };
-    match account_of(alloc, None, text, expectations.as_slice(), &closing) {
+    match account_of(
+        alloc,
+        None,
+        text,
+        expectations.as_slice(),
+        Mode::Turns,
+        &closing,
+    ) {
         Ok(account) => Ok(account),
         Err(refused) => {
             say_memory(page);

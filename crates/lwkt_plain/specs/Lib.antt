@@ -10,6 +10,7 @@ pub mod Openings
 pub mod Others
 pub mod Places
 pub mod Shelves
+pub mod Sizes
 pub mod Sound
 pub mod Stores
 pub mod Tables

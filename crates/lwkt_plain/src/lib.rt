@@ -23,6 +23,7 @@ pub mod parts;
 mod places;
 mod polls;
 pub mod shelves;
+mod sizes;
 pub mod states;
 pub mod stores;
 pub mod tables;

@@ -12,6 +12,9 @@ use std::alloc::Global;
 // Of how many releases it is said.
 const REMARK_LIMIT: usize = 100;
 
+// Among how many words of a sentence the claim is looked for.
+const WORD_LIMIT: usize = 64;
+
 // The tokens that a thread has taken, if it was given them, and not released, the first first, as its steps name them.
 #[derive(Drop)]
 struct Held<'t> {
@@ -104,11 +107,24 @@ fn add_release(page: &mut Page, source: Source<'_>, place: Place, word: &str, be
     add_end(page, source.bytes, place, "");
 }
 
+// Whether a claim of the sentence that begins at a place names such a refusal.
+fn names_refusal(bytes: &[u8], start: usize) -> bool {
+    for number in 2..WORD_LIMIT {
+        if word_in_sentence(bytes, start, number) == "refused"
+            && word_in_sentence(bytes, start, number.saturating_add(1)) == "12"
+        {
+            return true;
+        }
+    }
+    false
+}
+
 // Whether the sentence that begins at a place expects such a refusal.
 fn expects_refusal(bytes: &[u8], start: usize) -> bool {
-    matches!(word_in_sentence(bytes, start, 0), "always" | "sometimes")
-        && word_in_sentence(bytes, start, 2) == "refused"
-        && word_in_sentence(bytes, start, 3) == "12"
+    matches!(
+        word_in_sentence(bytes, start, 0),
+        "always" | "sometimes" | "forall" | "exists" | "in"
+    ) && names_refusal(bytes, start)
 }
 
 // Appends what is said of the releases of a text whose sentences begin at these places.

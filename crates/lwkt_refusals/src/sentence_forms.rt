@@ -1,8 +1,12 @@
 //! How sentences are written, in the letters of docs/LANGUAGE.md.
 use crate::pages::Page;
 use crate::rows::form_of_part;
+use crate::sentences::{place_in_sentence, word_in_sentence};
 use lwkt_base::PartKind;
 use lwkt_base::steps::verb_written;
+
+// Among how many words of a sentence the beginning of what is wrong is looked for.
+const WORD_LIMIT: usize = 64;
 
 /// What stands behind the word of a step, or nothing if the word is that of no step.
 pub(crate) fn kinds_of(word: &str) -> &'static [PartKind] {
@@ -50,7 +54,7 @@ fn subject_form(word: &str) -> &'static str {
         "at" => "M at PLACE",
         "saw" => "NAME saw N",
         "found" => "NAME found BYTES",
-        "refused" => "NAME refused N",
+        "refused" => "NAME refused [N]",
         "aborted" => "NAME aborted N",
         "empty" => "NAME empty",
         "took" => "NAME took M [op N] [arg N]",
@@ -63,9 +67,31 @@ fn subject_form(word: &str) -> &'static str {
 /// How a claim is written that has no subject.
 pub(crate) const NO_SUBJECT: &str = "SUM RELATION SUM";
 
-/// Whether claims begin with this word.
-pub(crate) fn begins_claim(word: &str) -> bool {
-    matches!(word, "always" | "sometimes" | "never")
+/// How many words stand before the claim of an expectation that begins with this word; none if none does.
+pub(crate) fn lead_of_claim(word: &str) -> Option<usize> {
+    match word {
+        "always" | "sometimes" | "never" | "forall" | "exists" => Some(1),
+        "~" | "in" => Some(2),
+        _ => None,
+    }
+}
+
+/// The number of the word in its sentence that begins what a claim has between `and`, `or`, `not` and brackets, up to a place; the claim
+/// itself begins with word `lead`.
+pub(crate) fn fact_begin(bytes: &[u8], at: usize, lead: usize) -> usize {
+    let mut begin = lead;
+    for number in lead..WORD_LIMIT {
+        if place_in_sentence(bytes, at, number) >= at {
+            return begin;
+        }
+        if matches!(
+            word_in_sentence(bytes, at, number),
+            "and" | "or" | "not" | "(" | ")"
+        ) {
+            begin = number.saturating_add(1);
+        }
+    }
+    begin
 }
 
 /// How a claim is written, by its first two words.
@@ -74,6 +100,7 @@ pub(crate) fn claim_form(first: &str, second: &str) -> &'static str {
         "ended" => "ended",
         "stuck" => "stuck",
         "fault" => "fault N",
+        "nobody" => "nobody refused [N]",
         _ => subject_form(second),
     }
 }

@@ -13,7 +13,7 @@ enum Kind {
     End,
     // A letter, a digit or `_`.
     Letter,
-    // A full stop, a word of its own.
+    // A full stop or a bracket, a word of its own.
     Point,
     // Any other.
     Sign,
@@ -25,7 +25,7 @@ fn kind_of(byte: u8) -> Kind {
         b' ' | b'\t' | b'\r' | b',' | b':' => Kind::Gap,
         b'\n' | b';' | b'#' => Kind::End,
         b'0'..=b'9' | b'A'..=b'Z' | b'a'..=b'z' | b'_' => Kind::Letter,
-        b'.' => Kind::Point,
+        b'.' | b'(' | b')' | b'[' | b']' => Kind::Point,
         _ => Kind::Sign,
     }
 }

@@ -5,7 +5,7 @@ use crate::messages::{Source, add_end, add_start};
 use crate::pages::Page;
 use crate::places::{Place, part_of, place_from};
 use crate::proposals::{is_keyword, near_cell, proposal, token_before};
-use crate::sentence_forms::{NO_SUBJECT, begins_claim, claim_form, show_sentence};
+use crate::sentence_forms::{NO_SUBJECT, claim_form, fact_begin, lead_of_claim, show_sentence};
 use crate::sentences::{NAME_LIMIT, sentence_at, word_at, word_from, word_in_sentence};
 use lwkt_base::OutOfMemory;
 use lwkt_base::memory::{from_slice, push};
@@ -26,6 +26,8 @@ fn word_of(wanted: Wanted) -> &'static str {
         Wanted::Equals => "`=` is wanted here",
         Wanted::Close => "`)` is wanted here",
         Wanted::Square => "`]` is wanted here",
+        Wanted::Exists => "`exists` is wanted here",
+        Wanted::Rounds => "`rounds` is wanted here",
     }
 }
 
@@ -65,6 +67,7 @@ fn words_of(what: What) -> &'static str {
             "a state is wanted here: of a thread ready, waiting, running, exited or faulted; of a message rest, out, with or back",
         What::Quantity =>
             "a number or a cell is wanted here, or gen, round or tally and what it is of",
+        What::Claim => "a claim is wanted here, as `ended`, `T.C = N` or `NAME saw N`",
         What::Relation => "=, !=, <, <=, > or >= is wanted here",
         What::Long => "a sentence has at most 1000 words",
         What::Length => "a text has at most 1048576 bytes",
@@ -124,9 +127,13 @@ fn add_quoted(page: &mut Page, bytes: &[u8], at: usize) {
 // How the sentence of a place is written, or the claim in it.
 fn add_form(page: &mut Page, bytes: &[u8], at: usize) {
     let first = word_in_sentence(bytes, at, 0);
-    if begins_claim(first) {
-        let subject = word_in_sentence(bytes, at, 1);
-        let form = claim_form(subject, word_in_sentence(bytes, at, 2));
+    if let Some(lead) = lead_of_claim(first) {
+        let begin = fact_begin(bytes, at, lead);
+        let subject = word_in_sentence(bytes, at, begin);
+        let form = claim_form(
+            subject,
+            word_in_sentence(bytes, at, begin.saturating_add(1)),
+        );
         page.say((": the claim is written `", form, "`"));
     } else if !show_sentence(page, first) {
         page.say(": the sentence is written `V = EXPR` or `V, .. = ASK`");

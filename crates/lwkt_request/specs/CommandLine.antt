@@ -22,11 +22,16 @@ file = new_rule (codes "FILE")
 abbrev pub run : App
 run = with_rule (with_rule (with_rule (new_app (codes "run")) (flag (codes "threads"))) (flag (codes "numbers"))) file
 
+-- the options that choose the order of a run, and which turns of it are shown
+abbrev pub with_turns : App → App
+with_turns app = with_rule (with_rule (with_rule app (valued (codes "order"))) (valued (codes "turns"))) (valued (codes "rounds"))
+
+-- those that choose a view
+abbrev pub with_views : App → App
+with_views app = with_rule (with_rule (with_rule (with_rule app (flag (codes "svg"))) (flag (codes "trace"))) (flag (codes "chains"))) (valued (codes "format"))
+
 abbrev pub show : App
-show =
-    with_rule (with_rule (with_rule (with_rule (with_rule (with_rule (with_rule (with_rule (with_rule (new_app (codes "show"))
-    (flag (codes "threads"))) (valued (codes "order"))) (valued (codes "turns"))) (valued (codes "rounds")))
-    (flag (codes "svg"))) (flag (codes "trace"))) (flag (codes "chains"))) (flag (codes "numbers"))) file
+show = with_rule (with_rule (with_views (with_turns (with_rule (new_app (codes "show")) (flag (codes "threads"))))) (flag (codes "numbers"))) file
 
 abbrev pub check : App
 check = with_rule (with_rule (new_app (codes "check")) (flag (codes "lines"))) file
@@ -34,11 +39,26 @@ check = with_rule (with_rule (new_app (codes "check")) (flag (codes "lines"))) f
 abbrev pub text : App
 text = with_rule (with_rule (with_rule (with_rule (new_app (codes "text")) (flag (codes "json"))) (flag (codes "text"))) (flag (codes "run"))) file
 
+-- the options that choose how each state is gone on from, and compared
+abbrev pub with_ways : App → App
+with_ways app = with_rule (with_rule app (flag (codes "plain"))) (flag (codes "careful"))
+
+-- those that bound a search
+abbrev pub with_bounds : App → App
+with_bounds app = with_rule (with_rule (with_rule (with_rule app (valued (codes "states"))) (valued (codes "turns"))) (valued (codes "memory"))) (valued (codes "seconds"))
+
+-- those of random orders
+abbrev pub with_random : App → App
+with_random app = with_rule (with_rule app (valued (codes "random"))) (valued (codes "seed"))
+
+-- those that choose how it is written what is found
+abbrev pub with_layouts : App → App
+with_layouts app = with_rule (with_rule app (flag (codes "numbers"))) (flag (codes "json"))
+
 abbrev pub explore : App
 explore =
-    with_rule (with_rule (with_rule (with_rule (with_rule (with_rule (with_rule (with_rule (with_rule (with_rule (with_rule (new_app (codes "explore"))
-    (flag (codes "plain"))) (flag (codes "careful"))) (valued (codes "states"))) (valued (codes "turns"))) (valued (codes "random")))
-    (valued (codes "seed"))) (valued (codes "seconds"))) (flag (codes "progress"))) (flag (codes "numbers"))) (flag (codes "all"))) file
+    with_rule (with_rule (with_layouts (with_rule (with_random (with_bounds (with_ways (new_app (codes "explore")))))
+    (flag (codes "progress")))) (flag (codes "all"))) file
 
 -- the program's name isn't among the words, a subcommand is wanted, `help` is no subcommand, and there is a version
 abbrev pub with_settings : Shape → Shape

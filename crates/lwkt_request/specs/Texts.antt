@@ -1,7 +1,7 @@
 -- Numbers, ranges and orders, as texts (own).
-use Rattle.std.specs.Prelude.{ℕ, ◌-◌, ◌+◌, ◌^◌, ◌&&◌, ◌||◌, ◌==◌, nat_lt, nat_le, List, [], ◌∷◌, length, Bool, true, false, Option, None, Some, if◌then◌else◌, codes}
-use Rattle.std.specs.List.{after_first, before_first, flat_map, list_all}
-use Rattle.std.specs.Option.{option_and_then, option_map}
+use Rattle.std.specs.Prelude.{ℕ, ◌-◌, ◌+◌, ◌*◌, ◌^◌, ◌&&◌, ◌||◌, ◌==◌, nat_lt, nat_le, List, [], ◌∷◌, length, Bool, true, false, Option, None, Some, if◌then◌else◌, codes}
+use Rattle.std.specs.List.{after_first, before_first, flat_map, list_all, position_or_len}
+use Rattle.std.specs.Option.{option_and_then, option_map, option_map_or}
 use Rattle.std.specs.Str.{all_ascii_digits, bytes_eq}
 use Rattle.std.specs.Str.Parse.{digits_value, without_leading_plus}
 use Rattle.clap.specs.Lexer.{strip_byte}
@@ -26,6 +26,30 @@ number_or without (Some text) = number_of text
 abbrev pub number_named : Option Text → Option (Option ℕ)
 number_named None = Some None
 number_named (Some text) = option_map (λ n. Some n) (number_of text)
+
+-- a text behind which nothing stands
+abbrev pub whole_before : Text → Text → Option Text
+whole_before front [] = Some front
+whole_before front (byte ∷ back) = None
+
+-- what stands before a byte that ends a text and stands nowhere else in it
+abbrev pub before_end : ℕ → Text → Option Text
+before_end byte text =
+    if position_or_len (λ b. b == byte) text == length text then None else whole_before (before_first (λ b. b == byte) text) (after_first (λ b. b == byte) text)
+
+-- so many times a number, below 2 ^ 64
+abbrev pub times_number : ℕ → Text → Option ℕ
+times_number unit text = option_and_then (λ n. if nat_lt (n * unit) (2 ^ 64) then Some (n * unit) else None) (number_of text)
+
+-- how many bytes a text names: a number, and perhaps K, M or G behind it, for 1024, its square and its cube
+abbrev pub bytes_named : Text → Option ℕ
+bytes_named text =
+    option_map_or (times_number 1024) (before_end 75 text) (option_map_or (times_number 1048576) (before_end 77 text) (option_map_or (times_number 1073741824) (before_end 71 text) (number_of text)))
+
+-- how many bytes an option has; as many as 64 bits go to for one that isn't named
+abbrev pub bytes_or : ℕ → Option Text → Option ℕ
+bytes_or without None = Some without
+bytes_or without (Some text) = bytes_named text
 
 -- an end of a range that is left out
 abbrev pub no_end : ℕ

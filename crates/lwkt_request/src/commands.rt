@@ -2,7 +2,7 @@
 ghost use Rattle.std.specs.Prelude.{◌≡◌, false, IfOk};
 ghost use Rattle.clap.specs.Words.{App, Rule, rule_of, with_rule, with_subcommand};
 ghost use Rattle.clap.specs.Simple.{on_top};
-ghost use Rattle.lwkt_request.specs.CommandLine.{IsBuilt, check, command_line, explore, file, flag, named, run, show, text, top, valued, with_settings};
+ghost use Rattle.lwkt_request.specs.CommandLine.{IsBuilt, check, command_line, explore, file, flag, named, run, show, text, top, valued, with_bounds, with_layouts, with_random, with_settings, with_turns, with_views, with_ways};
 
 use crate::pages::{
     CHECK, EXPLORE, EXPLORE_FILE, LWKT, Page, RUN, SCRIPT_FILE, SHOW, TEXT, TRACE_FILE, VERSION,
@@ -140,16 +140,10 @@ fn run_command<'a>(alloc: Global) -> Built<'a>
     with_file(alloc, command, SCRIPT_FILE)
 }
 
-fn show_command<'a>(alloc: Global) -> Built<'a>
-    ensures { IfOk result (IsBuilt show) }
+// The command with the options that choose the order of a run, and which turns of it are shown.
+fn with_turns<'a>(alloc: Global, command: Built<'a>) -> Built<'a>
+    ensures { (app : App) → IfOk command.entry (IsBuilt app) → IfOk result (IsBuilt (with_turns app)) }
 {
-    let command = Ok(described(Command::new(alloc, "show"), SHOW));
-    let command = with_flag(
-        alloc,
-        command,
-        "threads",
-        "Run each processor on an OS thread; wants --chains",
-    );
     let command = with_value(
         alloc,
         command,
@@ -164,13 +158,19 @@ fn show_command<'a>(alloc: Global) -> Built<'a>
         "A..B",
         "Show only turns A to B, counted from 0",
     );
-    let command = with_value(
+    with_value(
         alloc,
         command,
         "rounds",
         "A..B",
         "Show only rounds A to B, counted from 0",
-    );
+    )
+}
+
+// The command with the options that choose a view.
+fn with_views<'a>(alloc: Global, command: Built<'a>) -> Built<'a>
+    ensures { (app : App) → IfOk command.entry (IsBuilt app) → IfOk result (IsBuilt (with_views app)) }
+{
     let command = with_flag(alloc, command, "svg", "Draw the turns as a picture, in SVG");
     let command = with_flag(
         alloc,
@@ -184,6 +184,27 @@ fn show_command<'a>(alloc: Global) -> Built<'a>
         "chains",
         "List the written sections of each token",
     );
+    with_value(
+        alloc,
+        command,
+        "format",
+        "FORMAT",
+        "Write a picture svg, a page html or a timeline perfetto",
+    )
+}
+
+fn show_command<'a>(alloc: Global) -> Built<'a>
+    ensures { IfOk result (IsBuilt show) }
+{
+    let command = Ok(described(Command::new(alloc, "show"), SHOW));
+    let command = with_flag(
+        alloc,
+        command,
+        "threads",
+        "Run each processor on an OS thread; wants --chains",
+    );
+    let command = with_turns(alloc, command);
+    let command = with_views(alloc, command);
     let command = with_flag(
         alloc,
         command,
@@ -221,22 +242,28 @@ fn text_command<'a>(alloc: Global) -> Built<'a>
     with_file(alloc, command, SCRIPT_FILE)
 }
 
-fn explore_command<'a>(alloc: Global) -> Built<'a>
-    ensures { IfOk result (IsBuilt explore) }
+// The command with the options that choose how each state is gone on from, and compared.
+fn with_ways<'a>(alloc: Global, command: Built<'a>) -> Built<'a>
+    ensures { (app : App) → IfOk command.entry (IsBuilt app) → IfOk result (IsBuilt (with_ways app)) }
 {
-    let command = Ok(described(Command::new(alloc, "explore"), EXPLORE));
     let command = with_flag(
         alloc,
         command,
         "plain",
         "Try the turns of every processor from each state",
     );
-    let command = with_flag(
+    with_flag(
         alloc,
         command,
         "careful",
         "Compare each state with the real machine's",
-    );
+    )
+}
+
+// The command with the options that bound a search.
+fn with_bounds<'a>(alloc: Global, command: Built<'a>) -> Built<'a>
+    ensures { (app : App) → IfOk command.entry (IsBuilt app) → IfOk result (IsBuilt (with_bounds app)) }
+{
     let command = with_value(
         alloc,
         command,
@@ -254,36 +281,71 @@ fn explore_command<'a>(alloc: Global) -> Built<'a>
     let command = with_value(
         alloc,
         command,
-        "random",
-        "N",
-        "Try N random orders in place of all",
+        "memory",
+        "SIZE",
+        "Store at most SIZE bytes, such as 500M or 2G",
     );
-    let command = with_value(
-        alloc,
-        command,
-        "seed",
-        "S",
-        "Choose the random orders by S, by default 0",
-    );
-    let command = with_value(
+    with_value(
         alloc,
         command,
         "seconds",
         "N",
         "Stop after N seconds, and print what was found",
-    );
-    let command = with_flag(
+    )
+}
+
+// The command with the options of random orders.
+fn with_random<'a>(alloc: Global, command: Built<'a>) -> Built<'a>
+    ensures { (app : App) → IfOk command.entry (IsBuilt app) → IfOk result (IsBuilt (with_random app)) }
+{
+    let command = with_value(
         alloc,
         command,
-        "progress",
-        "Report each second how far the search is",
+        "random",
+        "N",
+        "Try N random orders in place of all",
     );
+    with_value(
+        alloc,
+        command,
+        "seed",
+        "S",
+        "Choose the random orders by S, by default 0",
+    )
+}
+
+// The command with the options that choose how it is written what is found.
+fn with_layouts<'a>(alloc: Global, command: Built<'a>) -> Built<'a>
+    ensures { (app : App) → IfOk command.entry (IsBuilt app) → IfOk result (IsBuilt (with_layouts app)) }
+{
     let command = with_flag(
         alloc,
         command,
         "numbers",
         "Write outcomes of a text in numbers, as those of JSON",
     );
+    with_flag(
+        alloc,
+        command,
+        "json",
+        "Write what is found as one JSON object",
+    )
+}
+
+fn explore_command<'a>(alloc: Global) -> Built<'a>
+    ensures { IfOk result (IsBuilt explore) }
+{
+    let command = Ok(described(Command::new(alloc, "explore"), EXPLORE));
+    let command = with_ways(alloc, command);
+    let command = with_bounds(alloc, command);
+    let command = with_random(alloc, command);
+    let command = with_flag(
+        alloc,
+        command,
+        "progress",
+        "Report each second how far the search is",
+    );
+    let command = with_layouts(alloc, command);
     let command = with_flag(alloc, command, "all", "Try each script of the folder FILE");
     with_file(alloc, command, EXPLORE_FILE)
 }

@@ -13,4 +13,4 @@ mod wrongs;
 
 pub use asking::request_of;
 pub use pages::VERSION;
-pub use requests::{Asked, Form, Request, Search, Task, Wording};
+pub use requests::{Asked, Form, Layout, Request, Search, Task, Wording};

@@ -85,11 +85,13 @@ each log beside its steps, and the report. A text is shown in its names, unless
 --numbers is given.
 
 In place of this, --svg draws the turns, --trace writes the run as a trace, and
---chains lists the written sections of each token. Name at most one of the three.
+--chains lists the written sections of each token. --format html writes a page
+that plays the run, --format perfetto a timeline for Perfetto or Chrome, and
+--format svg is --svg. Name at most one of these.
 
-Lines and pictures can be cut down to some turns with --turns A..B or to some
-rounds with --rounds A..B; A or B may be left out. Lines show at most the first
-10000 of these turns, a picture the first 2000.
+All but --trace and --chains can be cut down to some turns with --turns A..B or
+to some rounds with --rounds A..B; A or B may be left out. Lines show at most
+the first 10000 of these turns, the others the first 2000.
 
 An ORDER is a digit for the processor of each turn. Blanks, commas and dashes
 may stand between digits: 0,1,1 is 011, and - is the order without a turn. It
@@ -164,9 +166,14 @@ begins with `or` gives the message lines in which another of them differs from
 the first, and a shortest order to it.
 
 The last line ends with `complete` if every order was tried. Else it ends with
-`a part` and what ended the search: (states) or (turns) for the bound that
---states or --turns sets, (memory) for a failed allocation, (stopped) for
---seconds, and (differs) if the real machine differs from the plain one.
+`a part` and what ended the search: (states), (turns) or (memory) for the bound
+that --states, --turns or --memory sets, (memory) also for a failed allocation,
+(stopped) for --seconds, and (differs) if the real machine differs from the
+plain one. A line before it says which option gives more.
+
+A SIZE is a number of bytes, which K, M or G may follow. They are counted by how
+many states there are, and how many parts they have. Without --states the bound
+is 1000000 states, but with --memory there is none.
 
 If a text has expectations, standard error quotes each, and says whether it
 holds in all orders, with a shortest order that breaks it or shows it. An expectation is
@@ -175,8 +182,12 @@ full log leaves it open. A log has a thread's first 32 entries.
 
 Turns that can be exchanged aren't tried in each order; the outcomes are the
 same as with --plain. With --random the outcomes have counts, the last line ends
-with `a part` alone, and --states and --plain do nothing. A seed gives the same
-orders on every machine.
+with `a part` alone, and --states, --memory and --plain do nothing. A seed gives
+the same orders on every machine.
+
+With --json one object has all of it: outcomes with their orders and closing
+values, by names for a text and else by numbers, and the verdicts. Standard
+error then has none.
 
 With --all FILE is a folder: each .lwkt and .json file in it is tried, and a
 line says how many passed.",

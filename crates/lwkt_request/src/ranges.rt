@@ -1,10 +1,10 @@
 //! Numbers, ranges and orders, as texts.
-ghost use Rattle.std.specs.Prelude.{◌≡◌, ◌++◌, List, ℕ, IfOk, OnOk};
+ghost use Rattle.std.specs.Prelude.{◌≡◌, ◌<◌, ◌++◌, List, ℕ, IfOk, OnOk};
 ghost use Rattle.std.specs.List.{list_all};
 ghost use Rattle.std.specs.Option.{option_copied, option_map};
 ghost use Rattle.std.specs.Result.{result_ok};
 ghost use Rattle.clap.specs.Words.{Text};
-ghost use Rattle.lwkt_request.specs.Texts.{behind_stop, bound_or, ends_of, is_digit, is_part, number_named, number_of, number_or, path_of, range_between, range_named, range_of, rising, turn_of_byte, turns_of};
+ghost use Rattle.lwkt_request.specs.Texts.{before_end, behind_stop, bound_or, bytes_named, bytes_or, ends_of, is_digit, is_part, number_named, number_of, number_or, path_of, range_between, range_named, range_of, rising, times_number, turn_of_byte, turns_of, whole_before};
 
 use crate::wrongs::Wrong;
 use lwkt_base::OutOfMemory;
@@ -73,6 +73,64 @@ pub(crate) fn number_named<'a>(
     match number(text) {
         Some(number) => Ok(Some(number)),
         None => Err(Wrong::Number(name, text)),
+    }
+}
+
+// A text behind which nothing stands.
+fn whole_before<'a>(front: &'a str, back: &str) -> Option<&'a str>
+    ensures { option_copied result ≡ whole_before front.entry.now back.now }
+{
+    if back.is_empty() {
+        return Some(front);
+    }
+    None
+}
+
+// What stands before a letter that ends a text and stands nowhere else in it.
+fn before_end(text: &str, letter: char) -> Option<&str>
+    requires { letter < 128 }
+    ensures { option_copied result ≡ before_end letter text.now }
+{
+    match text.split_once(letter) {
+        Some((front, back)) => whole_before(front, back),
+        None => None,
+    }
+}
+
+// So many times the number that a text is.
+fn times_number(unit: u64, text: &str) -> Option<u64>
+    ensures { result ≡ times_number unit text.now }
+{
+    number(text)?.checked_mul(unit)
+}
+
+// How many bytes a text names.
+fn bytes_named(text: &str) -> Option<u64>
+    ensures { result ≡ bytes_named text.now }
+{
+    if let Some(front) = before_end(text, 'K') {
+        return times_number(1024, front);
+    }
+    if let Some(front) = before_end(text, 'M') {
+        return times_number(1_048_576, front);
+    }
+    if let Some(front) = before_end(text, 'G') {
+        return times_number(1_073_741_824, front);
+    }
+    number(text)
+}
+
+/// How many bytes an option has, or those that stand for one that isn't named.
+pub(crate) fn bytes_or<'a>(
+    name: &'static str,
+    value: Option<&'a str>,
+    without: u64,
+) -> Result<u64, Wrong<'a>>
+    ensures { result_ok result ≡ bytes_or without (option_copied value.entry) }
+{
+    match value {
+        Some(text) => bytes_named(text).ok_or(Wrong::Size(name, text)),
+        None => Ok(without),
     }
 }
 

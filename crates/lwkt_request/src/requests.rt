@@ -2,10 +2,20 @@
 use lwkt_explore::{Bounds, Method};
 use lwkt_show::Options;
 
+/// In which form it is written what a search finds.
+#[derive(Clone, Copy, PartialEq, Eq)]
+pub enum Layout {
+    /// As lines, with each outcome's report.
+    Lines,
+    /// `--json`: as one JSON object.
+    Json,
+}
+
 /// Which orders of a script's turns are tried, and how.
 #[derive(Clone, Copy)]
 pub struct Search {
-    /// `--states` and `--turns`: 1000000 and 100000 if they aren't named.
+    /// `--states`, `--turns` and `--memory`: 1000000 states and 100000 turns if they aren't named; with `--memory` as many states as there
+    /// are numbers.
     pub bounds: Bounds,
     /// `Plain` with `--plain`, else `Reduced`.
     pub method: Method,
@@ -19,6 +29,8 @@ pub struct Search {
     pub progress: bool,
     /// `--numbers`: whether outcomes of a text are written in numbers, and not in its names.
     pub in_numbers: bool,
+    /// `--json`: in which form it is written what is found.
+    pub layout: Layout,
     /// `--all`: whether the path is that of a folder, each script of which is tried.
     pub all: bool,
 }

@@ -2,11 +2,13 @@
 ghost use Rattle.std.specs.Prelude.{◌≡◌, is_ok};
 ghost use Rattle.std.specs.Option.{option_copied};
 ghost use Rattle.std.specs.Result.{result_ok};
-ghost use Rattle.lwkt_request.specs.Tasks.{explore_in, explored, fits, fits_order, fits_threads, form_of, has_range, is_chains, is_whole, options_of, rows_in, show_in, shown, task_in, text_in, rendering_of, wording_of};
+ghost use Rattle.lwkt_request.specs.Tasks.{explore_in, explored, fits, fits_order, fits_threads, form_of, format_named, has_range, is_chains, is_whole, layout_of, options_of, rows_in, show_in, shown, task_in, text_in, rendering_of, states_by, view_of, wording_of};
 
 use crate::matched::{is_on, value_in};
-use crate::ranges::{Range, are_parts, number_named, number_or, path_of, range_named, size_or};
-use crate::requests::{Form, Search, Task, Wording};
+use crate::ranges::{
+    Range, are_parts, bytes_or, number_named, number_or, path_of, range_named, size_or,
+};
+use crate::requests::{Form, Layout, Search, Task, Wording};
 use crate::wrongs::Wrong;
 use clap::ArgMatches;
 use lwkt_explore::{Bounds, Method};
@@ -22,6 +24,7 @@ struct ShowWords<'a> {
     svg: bool,
     trace: bool,
     chains: bool,
+    format: Option<&'a str>,
     in_numbers: bool,
 }
 
@@ -40,11 +43,50 @@ fn rendering_of<'a>(trace: bool, svg: bool, chains: bool) -> Result<Rendering, W
     }
 }
 
+// The view that `--format` names.
+fn format_named<'a>(format: &'a str) -> Result<Rendering, Wrong<'a>>
+    ensures { result_ok result ≡ format_named format.entry.now }
+{
+    match format {
+        "svg" => Ok(Rendering::Picture),
+        "html" => Ok(Rendering::Player),
+        "perfetto" => Ok(Rendering::Timeline),
+        _ => Err(Wrong::Format(format)),
+    }
+}
+
+// The view that three flags ask for, or a format in place of them.
+fn view_of<'a>(
+    trace: bool,
+    svg: bool,
+    chains: bool,
+    format: Option<&'a str>,
+) -> Result<Rendering, Wrong<'a>>
+    ensures { result_ok result ≡ view_of trace svg chains (option_copied format.entry) }
+{
+    let Some(format) = format else {
+        return rendering_of(trace, svg, chains);
+    };
+    if trace {
+        return Err(Wrong::Apart("--format", "--trace"));
+    }
+    if svg {
+        return Err(Wrong::Apart("--format", "--svg"));
+    }
+    if chains {
+        return Err(Wrong::Apart("--format", "--chains"));
+    }
+    format_named(format)
+}
+
 // Whether a view is of turns that are chosen, and not of the whole run.
 fn has_range(rendering: Rendering) -> bool
     ensures { result ≡ has_range rendering }
 {
-    matches!(rendering, Rendering::Lines | Rendering::Picture)
+    matches!(
+        rendering,
+        Rendering::Lines | Rendering::Picture | Rendering::Player | Rendering::Timeline
+    )
 }
 
 fn is_chains(rendering: Rendering) -> bool
@@ -139,9 +181,9 @@ fn fits<'a>(words: ShowWords<'a>, rendering: Rendering) -> Result<(), Wrong<'a>>
 }
 
 fn shown<'a>(words: ShowWords<'a>) -> Result<Task, Wrong<'a>>
-    ensures { result_ok result ≡ shown words.entry.on_threads (option_copied words.entry.order) (option_copied words.entry.turns) (option_copied words.entry.rounds) words.entry.svg words.entry.trace words.entry.chains words.entry.in_numbers }
+    ensures { result_ok result ≡ shown words.entry.on_threads (option_copied words.entry.order) (option_copied words.entry.turns) (option_copied words.entry.rounds) words.entry.svg words.entry.trace words.entry.chains (option_copied words.entry.format) words.entry.in_numbers }
 {
-    let rendering = rendering_of(words.trace, words.svg, words.chains)?;
+    let rendering = view_of(words.trace, words.svg, words.chains, words.format)?;
     let range = range_named(words.turns, words.rounds)?;
     let options = options_of(rendering, range)?;
     fits(words, rendering)?;
@@ -163,6 +205,7 @@ fn show_in<'a>(matches: &ArgMatches<'a>) -> Result<Task, Wrong<'a>>
         svg: is_on(matches, "svg"),
         trace: is_on(matches, "trace"),
         chains: is_on(matches, "chains"),
+        format: value_in(matches, "format"),
         in_numbers: is_on(matches, "numbers"),
     })
 }
@@ -200,20 +243,41 @@ struct ExploreWords<'a> {
     careful: bool,
     states: Option<&'a str>,
     turns: Option<&'a str>,
+    memory: Option<&'a str>,
     random: Option<&'a str>,
     seed: Option<&'a str>,
     seconds: Option<&'a str>,
     progress: bool,
     in_numbers: bool,
+    json: bool,
     all: bool,
     has_path: bool,
 }
 
-fn explored<'a>(words: ExploreWords<'a>) -> Result<Task, Wrong<'a>>
-    ensures { result_ok result ≡ explored words.entry.plain words.entry.careful (option_copied words.entry.states) (option_copied words.entry.turns) (option_copied words.entry.random) (option_copied words.entry.seed) (option_copied words.entry.seconds) words.entry.progress words.entry.in_numbers words.entry.all words.entry.has_path }
+// The bound on states where none is named: if memory is bounded, as many as there are numbers.
+fn states_by(memory: Option<&str>) -> usize
+    ensures { result ≡ states_by (option_copied memory.entry) }
 {
-    let states = size_or("--states", words.states, 1_000_000)?;
+    if memory.is_some() {
+        4_294_967_295
+    } else {
+        1_000_000
+    }
+}
+
+// The layout, by whether `--json` is named.
+fn layout_of(json: bool) -> Layout
+    ensures { result ≡ layout_of json }
+{
+    if json { Layout::Json } else { Layout::Lines }
+}
+
+fn explored<'a>(words: ExploreWords<'a>) -> Result<Task, Wrong<'a>>
+    ensures { result_ok result ≡ explored words.entry.plain words.entry.careful (option_copied words.entry.states) (option_copied words.entry.turns) (option_copied words.entry.memory) (option_copied words.entry.random) (option_copied words.entry.seed) (option_copied words.entry.seconds) words.entry.progress words.entry.in_numbers words.entry.json words.entry.all words.entry.has_path }
+{
+    let states = size_or("--states", words.states, states_by(words.memory))?;
     let turns = size_or("--turns", words.turns, 100_000)?;
+    let bytes = bytes_or("--memory", words.memory, u64::MAX)?;
     let random = number_named("--random", words.random)?;
     let seed = number_or("--seed", words.seed, 0)?;
     let seconds = number_named("--seconds", words.seconds)?;
@@ -224,6 +288,7 @@ fn explored<'a>(words: ExploreWords<'a>) -> Result<Task, Wrong<'a>>
         bounds: Bounds {
             states,
             turns,
+            bytes,
             compared: if words.careful { 1 } else { 1000 },
         },
         method: if words.plain {
@@ -236,6 +301,7 @@ fn explored<'a>(words: ExploreWords<'a>) -> Result<Task, Wrong<'a>>
         seconds,
         progress: words.progress,
         in_numbers: words.in_numbers,
+        layout: layout_of(words.json),
         all: words.all,
     }))
 }
@@ -248,11 +314,13 @@ fn explore_in<'a>(matches: &ArgMatches<'a>) -> Result<Task, Wrong<'a>>
         careful: is_on(matches, "careful"),
         states: value_in(matches, "states"),
         turns: value_in(matches, "turns"),
+        memory: value_in(matches, "memory"),
         random: value_in(matches, "random"),
         seed: value_in(matches, "seed"),
         seconds: value_in(matches, "seconds"),
         progress: is_on(matches, "progress"),
         in_numbers: is_on(matches, "numbers"),
+        json: is_on(matches, "json"),
         all: is_on(matches, "all"),
         has_path: path_of(value_in(matches, "FILE")).is_some(),
     })

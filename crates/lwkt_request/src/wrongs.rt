@@ -8,12 +8,16 @@ use std::alloc::Global;
 pub(crate) enum Wrong<'a> {
     /// The value is no whole number below 2^64.
     Number(&'static str, &'a str),
+    /// The value is no number of bytes.
+    Size(&'static str, &'a str),
     /// The value is no range.
     Range(&'static str, &'a str),
     /// The range begins behind its end.
     Falls(&'static str, &'a str),
     /// The value is no order.
     Order(&'a str),
+    /// The value is no format.
+    Format(&'a str),
     /// Two options that don't go together.
     Apart(&'static str, &'static str),
     /// An option that wants something else beside it.
@@ -56,6 +60,9 @@ fn sentence_of(alloc: Global, wrong: Wrong<'_>) -> Result<String, OutOfMemory> {
         Wrong::Number(name, value) => {
             unfit(alloc, name, value, "a whole number below 2^64", " 10")
         }
+        Wrong::Size(name, value) => {
+            unfit(alloc, name, value, "a number of bytes below 2^64", " 500M")
+        }
         Wrong::Range(name, value) => unfit(alloc, name, value, "a range", " 1..5"),
         Wrong::Falls(name, value) => {
             joined(
@@ -75,6 +82,13 @@ fn sentence_of(alloc: Global, wrong: Wrong<'_>) -> Result<String, OutOfMemory> {
                 " 0,1,0",
             )
         }
+        Wrong::Format(value) => joined(
+            alloc,
+            "--format ",
+            value,
+            ": give svg, html or perfetto",
+            "",
+        ),
         Wrong::Apart(one, other) => joined(alloc, one, " and ", other, " don't go together"),
         Wrong::Beside(one, other) => joined(alloc, one, " wants ", other, " beside it"),
         Wrong::NoCommand => from_str(alloc, "a command is wanted"),

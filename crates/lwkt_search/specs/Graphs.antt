@@ -1,7 +1,8 @@
 -- The states that a search found, as a graph.
-use Rattle.std.specs.Prelude.{◌≡◌, ◌≢◌, ℕ, ◌+◌, ◌*◌, ◌<◌, ◌≤◌, ◌⊎◌, List, [], ◌∷◌, ◌++◌, length, slice_index_or, All, Bool, IsTrue}
-use Rattle.lwkt_search.specs.declared.searches.Link.{Link}
-use Rattle.lwkt_search.specs.declared.searches.TheConstants.{UNTRIED}
+use Rattle.std.specs.Prelude.{◌≡◌, ◌≢◌, ℕ, ◌+◌, ◌<◌, ◌≤◌, ◌⊎◌, List, [], ◌∷◌, ◌++◌, length, slice_index_or, All, Bool, IsTrue}
+use Rattle.lwkt_search.specs.declared.rows.TheConstants.{UNTRIED, LAST}
+use Rattle.lwkt_search.specs.declared.searches.Growth.{Growth}
+use Rattle.lwkt_search.specs.Links.{Link}
 use Rattle.lwkt_search.specs.Runs.{Told, run, IsOrder, IsOutcome, IsLast, IsShortest, HasOutcome, AreApart}
 
 -- a turn leads to a state that was kept before
@@ -90,40 +91,63 @@ pub record IsTurnAt {S : Type 0} (turn : S → ℕ → S) (start : S) (nodes : L
   pub leads : (node_at start nodes next).state ≡ turn (node_at start nodes at).state cpu
   pub depth : (node_at start nodes next).depth ≤ (node_at start nodes at).depth + 1
 
--- what the row of a state has of a processor
-abbrev pub in_row : ℕ → List ℕ → ℕ → ℕ → ℕ
-in_row cpus next at cpu = slice_index_or next (at * cpus + cpu) 0
+-- a row has where the turn of a processor leads from the state at a place, if it was tried
+abbrev pub IsInRow : {S : Type 0} → (S → ℕ → S) → S → List (Node S) → List ℕ → ℕ → ℕ → Type 0
+IsInRow turn start nodes row at cpu = slice_index_or row cpu 0 ≢ UNTRIED → IsTurnAt turn start nodes at cpu (slice_index_or row cpu 0)
 
--- the row of a state has where the turn of a processor leads, if it was tried
-pub record IsInRow {S : Type 0} (turn : S → ℕ → S) (start : S) (cpus : ℕ) (nodes : List (Node S)) (next : List ℕ) (at cpu : ℕ) : Type 0 where
-  pub inside : at * cpus + cpu < length next
-  pub leads : in_row cpus next at cpu ≢ UNTRIED → IsTurnAt turn start nodes at cpu (in_row cpus next at cpu)
-
--- the search has gone on from each state before a place, and these have rows
-pub record IsGrown {S : Type 0} (turn : S → ℕ → S) (start : S) (cpus : ℕ) (nodes : List (Node S)) (next : List ℕ) (at : ℕ) : Type 0 where
+-- the search goes on from the state at a place, which has this row
+pub record IsWithin {S : Type 0} (turn : S → ℕ → S) (start : S) (cpus : ℕ) (nodes : List (Node S)) (row : List ℕ) (at : ℕ) : Type 0 where
   pub search : IsSearchOf turn start cpus nodes at
   pub small : length nodes ≤ UNTRIED
-  pub rows : (i : ℕ) → i < at → (cpu : ℕ) → cpu < cpus → IsInRow turn start cpus nodes next i cpu
+  pub long : length row ≡ cpus
+  pub turned : (cpu : ℕ) → cpu < cpus → IsInRow turn start nodes row at cpu
 
--- the same, and there are no further rows
-pub record IsBefore {S : Type 0} (turn : S → ℕ → S) (start : S) (cpus : ℕ) (nodes : List (Node S)) (next : List ℕ) (at : ℕ) : Type 0 where
-  pub grown : IsGrown turn start cpus nodes next at
-  pub long : length next ≡ at * cpus
+-- some turn leads from the state at a place to that at the next one
+pub record LeadsTo {S : Type 0} (turn : S → ℕ → S) (start : S) (cpus : ℕ) (nodes : List (Node S)) (at next : ℕ) : Type 0 where
+  pub cpu : ℕ
+  pub below : cpu < cpus
+  pub turned : IsTurnAt turn start nodes at cpu next
 
--- the same, and the state at the place has a row
-pub record IsWithin {S : Type 0} (turn : S → ℕ → S) (start : S) (cpus : ℕ) (nodes : List (Node S)) (next : List ℕ) (at : ℕ) : Type 0 where
-  pub grown : IsGrown turn start cpus nodes next at
-  pub long : length next ≡ at * cpus + cpus
-  pub row : (cpu : ℕ) → cpu < cpus → IsInRow turn start cpus nodes next at cpu
+-- what is noted of a state that the search went on from: that it is a last one, or else where it leads on, if only to itself
+pub record IsNoted {S : Type 0} (turn : S → ℕ → S) (ended : S → Type 0) (start : S) (cpus : ℕ) (nodes : List (Node S)) (is_whole : Bool) (onward at : ℕ) : Type 0 where
+  pub last : onward ≡ LAST → IsLast turn ended cpus (node_at start nodes at).state
+  pub other : onward ≢ LAST → IsTrue is_whole → IsLast turn ended cpus (node_at start nodes at).state → ⊥
+  pub leads : onward ≢ LAST → (onward ≡ at) ⊎ LeadsTo turn start cpus nodes at onward
 
--- each turn from so many states was tried
-abbrev pub AllTried : ℕ → List ℕ → ℕ → Type 0
-AllTried cpus next count = (i : ℕ) → i < count → (cpu : ℕ) → cpu < cpus → in_row cpus next i cpu ≢ UNTRIED
+-- each turn from each state before a place was tried
+abbrev pub AllTried : {S : Type 0} → (S → ℕ → S) → S → ℕ → List (Node S) → ℕ → Type 0
+AllTried turn start cpus nodes at = (i : ℕ) → i < at → (cpu : ℕ) → cpu < cpus → IsTried turn (length nodes) (node_at start nodes) (node_at start nodes i) cpu
+
+-- the search has gone on from each state before a place, by each turn if it is whole
+pub record IsGrown {S : Type 0} (turn : S → ℕ → S) (ended : S → Type 0) (start : S) (cpus : ℕ) (nodes : List (Node S)) (onward : List ℕ) (is_whole : Bool) (at : ℕ) : Type 0 where
+  pub search : IsSearchOf turn start cpus nodes at
+  pub small : length nodes ≤ UNTRIED
+  pub long : length onward ≡ at
+  pub noted : (i : ℕ) → i < at → IsNoted turn ended start cpus nodes is_whole (slice_index_or onward i 0) i
+  pub tried : IsTrue is_whole → AllTried turn start cpus nodes at
 
 -- the search has gone on from each state
-pub record IsFinished {S : Type 0} (turn : S → ℕ → S) (start : S) (cpus : ℕ) (nodes : List (Node S)) (next : List ℕ) (gone_on : ℕ) : Type 0 where
-  pub grown : IsGrown turn start cpus nodes next gone_on
+pub record IsFinished {S : Type 0} (turn : S → ℕ → S) (ended : S → Type 0) (start : S) (cpus : ℕ) (nodes : List (Node S)) (onward : List ℕ) (is_whole : Bool) (gone_on : ℕ) : Type 0 where
+  pub grown : IsGrown turn ended start cpus nodes onward is_whole gone_on
   pub each : gone_on ≡ length nodes
+
+-- at most so many turns lead to each state before a place
+abbrev pub AreWithin : {S : Type 0} → ℕ → S → List (Node S) → ℕ → Type 0
+AreWithin turns start nodes at = (k : ℕ) → k < at → (node_at start nodes k).depth ≤ turns
+
+-- so many turns lead to the states from a place on and before the end of a layer, and one more to those behind
+pub record IsLayer {S : Type 0} (start : S) (nodes : List (Node S)) (depth end at : ℕ) : Type 0 where
+  pub within : at ≤ end
+  pub there : end ≤ length nodes
+  pub here : (k : ℕ) → at ≤ k → k < end → (node_at start nodes k).depth ≡ depth
+  pub behind : (k : ℕ) → end ≤ k → k < length nodes → (node_at start nodes k).depth ≡ depth + 1
+
+-- how far a search is: the states that were found, what is noted of those that it went on from, and in which layer it is
+pub record IsGrowth {S K : Type 0} (turn : S → ℕ → S) (ended : S → Type 0) (start : S) (cpus turns : ℕ) (kept : List S) (growth : Growth K) : Type 0 where
+  pub long : length growth.links ≡ length kept
+  pub grown : IsGrown turn ended start cpus (nodes_of kept growth.links) growth.onward.items growth.is_whole growth.gone_on
+  pub layer : IsLayer start (nodes_of kept growth.links) growth.layer.depth growth.layer.end growth.gone_on
+  pub deep : AreWithin turns start (nodes_of kept growth.links) growth.gone_on
 
 -- a state that was found, and an order that leads to it, as long as it is deep
 pub record IsTold {S : Type 0} (turn : S → ℕ → S) (start : S) (cpus : ℕ) (nodes : List (Node S)) (at : ℕ) (outcome : Told S) : Type 0 where
@@ -132,18 +156,15 @@ pub record IsTold {S : Type 0} (turn : S → ℕ → S) (start : S) (cpus : ℕ)
   pub leads : run turn start outcome.order ≡ (node_at start nodes at).state
   pub long : length outcome.order ≡ (node_at start nodes at).depth
 
--- what was noted stays
-abbrev pub Keeps : List Link → List Link → Type 0
-Keeps old new = (k : ℕ) → k < length old → (d : Link) → slice_index_or new k d ≡ slice_index_or old k d
-
--- at most so many turns lead to each state before a place
-abbrev pub AreWithin : ℕ → List Link → ℕ → Type 0
-AreWithin turns links at = (k : ℕ) → k < at → (d : Link) → (slice_index_or links k d).depth ≤ turns
-
 -- the new list has each node of the old one at its place
 pub record Grows {S : Type 0} (start : S) (old new : List (Node S)) : Type 0 where
   pub longer : length old ≤ length new
   pub same : (k : ℕ) → k < length old → node_at start new k ≡ node_at start old k
+
+-- and what is new was found by turns from the state at a place
+pub record GrowsFrom {S : Type 0} (start : S) (at : ℕ) (old new : List (Node S)) : Type 0 where
+  pub grows : Grows start old new
+  pub deeper : (k : ℕ) → length old ≤ k → k < length new → (node_at start new k).depth ≡ (node_at start old at).depth + 1
 
 -- this outcome's state was found before this place
 pub record IsFrom {S : Type 0} (start : S) (nodes : List (Node S)) (outcomes : List (Told S)) (at k : ℕ) : Type 0 where

@@ -93,7 +93,7 @@ impl Codes {
         None
     }
 
-    // Makes a wider index where there are more codes than buckets.
+    // Makes a wider index where there are twice as many codes as buckets.
     fn widen(&mut self, alloc: Global) -> Result<(), Refusal>
         requires codes { AreCodes self.old.width self.old.flat.items (length self.old.index.links.items) self.old.index.heads.items self.old.index.links.items }
         ensures width { IfOk result (λ done. self.new.width ≡ self.old.width) }
@@ -102,10 +102,10 @@ impl Codes {
         ensures codes { IfOk result (λ done. AreCodes self.new.width self.new.flat.items (length self.new.index.links.items) self.new.index.heads.items self.new.index.links.items) }
     {
         let count = self.len();
-        if count < self.index.heads.len() {
+        if count / 2 < self.index.heads.len() {
             return Ok(());
         }
-        let mut index = Index::empty(alloc, count)?;
+        let mut index = Index::empty(alloc, count / 2)?;
         for at in 0..count {
             index.add(key_of(self.code(at)))?;
         }

@@ -9,13 +9,17 @@
 
 pub mod codes;
 pub mod indexes;
+mod links;
 mod losses;
 mod machines;
 mod refusals;
+mod rows;
 mod searches;
 
 pub use codes::Codes;
+pub use links::Links;
 pub use losses::lost_states;
 pub use machines::{Machine, Seen, Watch};
 pub use refusals::{MOST_NUMBERS, Refusal};
-pub use searches::{Bound, Found, Growth, Link, Outcome, Task, UNTRIED};
+pub use rows::LAST;
+pub use searches::{Bound, Found, Growth, Layer, Outcome, Task};

@@ -1,5 +1,5 @@
 //! Machines: states that are kept by number, where turns lead from them, and which of them are tried; and who looks on at a search.
-ghost use Rattle.std.specs.Prelude.{◌↔◌, ℕ, ◌<◌, List, length, slice_index_or, IsTrue, IfOk};
+ghost use Rattle.std.specs.Prelude.{◌≡◌, ◌↔◌, ℕ, ◌<◌, List, length, slice_index_or, IsTrue, IfOk};
 ghost use Rattle.lwkt_search.specs.Graphs.{IsTurned};
 
 use crate::refusals::Refusal;
@@ -22,6 +22,8 @@ pub trait Machine: Drop {
 
     ghost is_sound: { Self → Self.Store → Type 0 };
 
+    ghost bytes_of: { Self → Self.Store → ℕ };
+
     /// The number of the state that the turn of a processor leads to from the one of a number; a new state gets the next number.
     ///
     /// Refused if memory is, or if there is no number left.
@@ -37,6 +39,10 @@ pub trait Machine: Drop {
         requires sound { is_sound self.now store.now }
         requires there { at < length (kept store.now) }
         ensures { IsTrue result ↔ ended_of self.now (slice_index_or (kept store.now) at (start_of self.now)) };
+
+    /// How many bytes the states take that are kept.
+    fn bytes(&self, store: &Self::Store) -> u64
+        ensures { result ≡ bytes_of self.now store.now };
 
     /// Which turns are tried from the state of a number: those of the first set of processors, and those of the next one only if none
     /// of these leads to a state that the search has still to go on from. A set has a bit for each processor, 1 for the first one.
@@ -54,8 +60,10 @@ pub struct Seen {
     pub states: usize,
     /// How many of the states weren't gone on from yet.
     pub frontier: usize,
-    /// How many turns there are from those that it went on from.
+    /// How many turns were tried.
     pub turns: u64,
+    /// How many bytes the states take that were kept, apart from what is noted of them.
+    pub bytes: u64,
 }
 
 /// Who looks on at a search.

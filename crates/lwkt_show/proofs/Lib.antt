@@ -1,6 +1,7 @@
 pub mod Ahead
 pub mod AskPartings
 pub mod AskTexts
+pub mod CircleLemmas
 pub mod Partings
 pub mod Pieces
 pub mod Refusals

@@ -1,7 +1,13 @@
 pub mod Apart
+pub mod Circles
+pub mod Columns
 pub mod Computed
+pub mod Deeds
 pub mod Keeping
 pub mod Lines
+pub mod Marked
 pub mod Showing
 pub mod Shown
+pub mod Timelines
+pub mod Verdicts
 pub mod Words

@@ -13,7 +13,7 @@ use Rattle.lwkt_show.specs.Shown.{first_turn}
 use Rattle.lwkt_trace.specs.Written.{trace_text}
 use Rattle.lwkt_show.specs.declared.options.Options.{Options}
 use Rattle.lwkt_show.specs.declared.options.Rendering.{Rendering}
-use Rattle.lwkt_show.specs.declared.options.Rendering.TheVariants.{Lines, Trace, Picture, Chains}
+use Rattle.lwkt_show.specs.declared.options.Rendering.TheVariants.{Lines, Trace, Picture, Chains, Player, Timeline}
 
 -- the lines of a run in rounds, or along an order, in the names of a text or in numbers: of each turn that the options choose its line, one behind another, then some words,
 -- and then the run's report
@@ -27,6 +27,8 @@ ShowsBy names Lines options order script run text = ShowsLines names options ord
 ShowsBy names Trace options order script run text = text ≡ trace_text script run.trace.items run.closing
 ShowsBy names Picture options order script run text = Unit {0}
 ShowsBy names Chains options order script run text = Unit {0}
+ShowsBy names Player options order script run text = Unit {0}
+ShowsBy names Timeline options order script run text = Unit {0}
 
 -- the same of the view that the options name
 abbrev pub ShowsAs : Option Names → Options → Option (List ℕ) → Script → TurnsRun → List ℕ → Type 0

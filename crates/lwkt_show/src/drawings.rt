@@ -1,69 +1,63 @@
 //! How the parts of a picture are drawn.
-use crate::boxes::{Labelled, show_box};
+use crate::boxes::{Labelled, below_of, show_box};
+use crate::columns::Column;
 use crate::labels::{Label, Tag};
-use crate::layouts::{Layout, ROW, Spot};
+use crate::layouts::{BOX, Layout, ROW, Spot};
+use crate::marked::show_marked;
 use crate::shapes::{
-    BOLD, Point, VALUE, digits, draw, show_flag, show_line, show_rect, show_ring, show_text_at,
+    BOLD, Point, digits, draw, letters_in, show_bar, show_flag, show_line, show_ring, show_text_at,
+    value_class,
 };
 use crate::sketches::{Bar, Sketch, Stored, TurnBox, Way};
 use crate::words::{mode_word, show_cell, show_fault, show_message, show_token_at};
-use lwkt_base::{Fault, Mode};
+use lwkt_base::Fault;
+use lwkt_base::limits::CPU_LIMIT;
 use lwkt_refusals::Page;
 use lwkt_text::Names;
 use lwkt_told::{Called, cells_of};
 
-// How far right of a round's beginning messages leave and arrive.
-const STALK: usize = 24;
+// The fewest letters of a value that are worth their room.
+const VALUE_LETTERS: usize = 4;
 
-/// The class of a bar.
-pub(crate) fn bar_class(mode: Mode) -> &'static str {
-    match mode {
-        Mode::Exclusive => "full",
-        Mode::Shared => "hatched",
-    }
-}
-
-// Appends what a bar says, and its end.
+// Appends what a bar says.
 fn show_bar_title(out: &mut Page, names: Option<&Names>, bar: &Bar) {
-    out.add("><title>token ");
+    out.add("<title>token ");
     show_token_at(out, names, bar.spot.tok);
     out.add(" held ");
     out.add(mode_word(bar.mode));
-    let numbers = [bar.spot.cpu, bar.spot.round, bar.until];
-    draw(
-        out,
-        " by processor @, rounds @ to @</title></rect>\n",
-        &numbers,
-    );
+    let numbers = [bar.spot.cpu, bar.spot.turn, bar.until];
+    draw(out, " by processor @, turns @ to @</title>", &numbers);
 }
 
 // Where a bar begins in a band: at the band's edge if it goes on from before.
 fn bar_begin(layout: &Layout, bar: &Bar, band: usize) -> usize {
-    let begin = layout.grid.begin(band);
-    if bar.spot.round < begin {
-        return layout.grid.x(begin);
+    let begin = layout.columns.begin(band);
+    if bar.spot.turn < begin {
+        return layout.columns.x(begin);
     }
-    layout.grid.x(bar.spot.round).saturating_add(2)
+    layout.columns.x(bar.spot.turn).saturating_add(2)
 }
 
 // Where a bar ends in a band: at the band's edge if it goes on behind it.
 fn bar_end(layout: &Layout, bar: &Bar, band: usize) -> usize {
-    if bar.until > layout.grid.end(band) {
-        return layout.grid.right(band);
+    if bar.until > layout.columns.end(band) {
+        return layout.columns.edge(band);
     }
-    let inside = layout.grid.widths.column.saturating_sub(2);
-    layout.grid.x(bar.until).saturating_add(inside)
+    layout.columns.right(bar.until).saturating_sub(2)
 }
 
 // Appends a bar in each band in which it stands.
 fn draw_bar(out: &mut Page, names: Option<&Names>, layout: &Layout, bar: &Bar) {
-    let last = layout.grid.band(bar.until);
-    for band in layout.grid.band(bar.spot.round)..last.saturating_add(1) {
+    let last = layout.columns.band(bar.until);
+    for band in layout.columns.band(bar.spot.turn)..last.saturating_add(1) {
         if let Some(y) = layout.row(band, bar.spot.cpu, bar.spot.tok) {
             let x = bar_begin(layout, bar, band);
             let width = bar_end(layout, bar, band).saturating_sub(x);
-            show_rect(out, Point { x, y }, width, ROW - 4, bar_class(bar.mode));
+            out.add("<g>");
             show_bar_title(out, names, bar);
+            let at = Point { x, y };
+            show_bar(out, at, width, ROW - 3, bar.spot.tok, bar.mode);
+            out.add("</g>\n");
         }
     }
 }
@@ -133,12 +127,15 @@ pub(crate) fn show_stored(
     stored: &Stored,
     room: usize,
 ) {
-    show_text_at(out, at, VALUE);
+    show_text_at(out, at, value_class(stored.spot.tok, stored.mode));
     out.add("<title>");
     show_cell(out, names, stored.tok, stored.cell);
-    out.number(" is now ", stored.value);
+    out.number(
+        if stored.is_read { " is " } else { " is now " },
+        stored.value,
+    );
     if stored.more {
-        out.add("; further cells are stored in the same turn");
+        out.add("; further cells are read or stored in the same turn");
     }
     out.add("</title>");
     match names {
@@ -153,12 +150,19 @@ fn draw_value(out: &mut Page, names: Option<&Names>, layout: &Layout, stored: &S
     let Some(at) = layout.spot(stored.spot) else {
         return;
     };
-    let round = stored.spot.round;
-    let behind = layout.grid.end(layout.grid.band(round)).saturating_add(1);
-    let rounds = stored.until.min(behind).saturating_sub(round).max(1);
-    let width = rounds.saturating_mul(layout.grid.widths.column);
-    let room = width.saturating_sub(1) / 6;
-    show_stored(out, names, at.by(2, 9), stored, room);
+    let columns = &layout.columns;
+    let band = columns.band(stored.spot.turn);
+    let end = if stored.until > columns.end(band) {
+        columns.edge(band)
+    } else {
+        columns.x(stored.until)
+    };
+    let end = end.max(columns.right(stored.spot.turn));
+    let room = letters_in(end.saturating_sub(at.x).saturating_sub(6));
+    if room < VALUE_LETTERS {
+        return;
+    }
+    show_stored(out, names, at.by(4, 11), stored, room);
 }
 
 // Appends a mark in the row of the processor that set it.
@@ -166,23 +170,22 @@ fn draw_mark(out: &mut Page, names: Option<&Names>, layout: &Layout, mark: Spot)
     let Some(at) = layout.spot(mark) else {
         return;
     };
-    let x = at.x.saturating_add(layout.grid.widths.column / 2);
-    let y = at.y.saturating_sub(2);
-    show_flag(out, Point { x, y });
+    let x = layout.columns.middle(mark.turn);
+    show_flag(out, Point { x, y: at.y });
     out.add("><title>token ");
     show_token_at(out, names, mark.tok);
-    let behind = " marked by processor @ in round @</title></path>\n";
-    draw(out, behind, &[mark.cpu, mark.round]);
+    let behind = " marked by processor @ in turn @</title></path>\n";
+    draw(out, behind, &[mark.cpu, mark.turn]);
 }
 
 // How far below two processors' turns a line from the one to the other begins and ends.
 fn sides(cpu: usize, to: usize) -> (usize, usize) {
     if to > cpu {
-        (ROW, 0)
+        (BOX, 0)
     } else if to < cpu {
-        (0, ROW)
+        (0, BOX)
     } else {
-        (ROW + 3, ROW + 3)
+        (BOX + 3, BOX + 3)
     }
 }
 
@@ -197,22 +200,30 @@ fn halfway(layout: &Layout, band: usize, cpu: usize, to: usize, x: usize) -> Poi
     }
 }
 
-// Appends the lines of a message that arrives at a processor in a round: one, or where it arrives in another band two.
+// The middle of a processor's turn, so far below its top.
+fn stalk(layout: &Layout, turn: usize, cpu: usize, below: usize) -> Point {
+    Point {
+        x: layout.columns.middle(turn),
+        y: layout.turn(turn, cpu).y.saturating_add(below),
+    }
+}
+
+// Appends the lines of a message that arrives at a processor in a turn: one, or where it arrives in another band two.
 fn draw_arrow(out: &mut Page, layout: &Layout, way: &Way, cpu: usize, until: usize) {
-    let grid = layout.grid;
+    let columns = &layout.columns;
     let (down, up) = sides(way.cpu, cpu);
-    let from = layout.turn(way.since, way.cpu).by(STALK, down);
-    let to = layout.turn(until, cpu).by(STALK, up);
-    let (band, to_band) = (grid.band(way.since), grid.band(until));
-    let begins = way.since >= grid.first;
+    let from = stalk(layout, way.since, way.cpu, down);
+    let to = stalk(layout, until, cpu, up);
+    let (band, to_band) = (columns.band(way.since), columns.band(until));
+    let begins = way.since >= columns.span.first;
     if begins && band == to_band {
         return show_line(out, from, to, way.look, true);
     }
     if begins {
-        let edge = halfway(layout, band, way.cpu, cpu, grid.right(band));
+        let edge = halfway(layout, band, way.cpu, cpu, columns.edge(band));
         show_line(out, from, edge, way.look, false);
     }
-    let x = grid.x(grid.begin(to_band));
+    let x = columns.x(columns.begin(to_band));
     let edge = halfway(layout, to_band, way.cpu, cpu, x);
     show_line(out, edge, to, way.look, true);
 }
@@ -225,9 +236,9 @@ fn show_way(out: &mut Page, names: Option<&Names>, way: &Way) {
     out.add("message ");
     show_message(out, names, way.msg);
     out.number(", round ", way.round);
-    draw(out, ": from processor @ in round @", &[way.cpu, way.since]);
+    draw(out, ": from processor @ in turn @", &[way.cpu, way.since]);
     match way.end {
-        Some((cpu, until)) => draw(out, " to processor @ in round @", &[cpu, until]),
+        Some((cpu, until)) => draw(out, " to processor @ in turn @", &[cpu, until]),
         None => out.add(", not taken"),
     }
     out.add("</title>");
@@ -238,24 +249,62 @@ fn draw_way(out: &mut Page, names: Option<&Names>, layout: &Layout, way: &Way) {
     show_way(out, names, way);
     match way.end {
         Some((cpu, until)) => draw_arrow(out, layout, way, cpu, until),
-        None => show_ring(out, layout.turn(way.since, way.cpu).by(STALK, ROW)),
+        None => show_ring(out, stalk(layout, way.since, way.cpu, BOX)),
     }
     out.add("</g>\n");
 }
 
-// Appends the box of a turn.
-fn draw_box(out: &mut Page, layout: &Layout, turn: &TurnBox) {
-    let at = layout.turn(turn.round, turn.cpu);
-    out.add("<g><title>");
-    out.add_line(&turn.line);
+// Appends the rounds that share a column, after the words of their first turn.
+fn show_rounds(out: &mut Page, column: Column) {
+    let last = column.round.saturating_add(column.rounds.saturating_sub(1));
+    draw(
+        out,
+        "; nothing changes in rounds @ to @",
+        &[column.round, last],
+    );
+}
+
+// Appends the box of a turn in its column.
+fn draw_box(out: &mut Page, layout: &Layout, column: Column, turn: &TurnBox) {
+    let at = layout.turn(turn.turn, turn.cpu);
+    draw(out, "<g data-turn=\"@\"", &[turn.turn]);
+    if column.rounds > 1 {
+        let last = layout.columns.span.first.saturating_add(column.first);
+        let last = last.saturating_add(column.turns.saturating_sub(1));
+        let every = column.turns / column.rounds;
+        draw(out, " data-until=\"@\" data-every=\"@\"", &[last, every]);
+    }
+    out.add("><title>");
+    show_marked(out, turn.line.as_str().trim_end());
+    if column.rounds > 1 {
+        show_rounds(out, column);
+    }
     out.add("</title>");
     let shown = Labelled {
         content: turn.content,
         label: turn.label.as_str(),
-        width: layout.grid.widths.column,
+        below: below_of(column.rounds, turn.deed.as_str()),
+        width: column.width,
+        height: BOX,
     };
     show_box(out, at, shown, turn.crossed);
     out.add("</g>\n");
+}
+
+// Appends the boxes of turns, of those that share a column one for each processor.
+fn draw_boxes(out: &mut Page, layout: &Layout, boxes: &[TurnBox]) {
+    let mut drawn = [None; CPU_LIMIT];
+    for turn in boxes {
+        let Some(column) = layout.columns.column(turn.turn) else {
+            return;
+        };
+        if let Some(last) = drawn.get_mut(turn.cpu) {
+            if *last != Some(column.first) {
+                draw_box(out, layout, column, turn);
+            }
+            *last = Some(column.first);
+        }
+    }
 }
 
 // Appends a fault in bold, and in words where the pointer rests on it.
@@ -275,7 +324,7 @@ fn show_fault_label(out: &mut Page, at: Point, fault: Fault, ends: bool) {
 fn draw_label(out: &mut Page, layout: &Layout, label: &Label) {
     let at = Point {
         x: label.x,
-        y: layout.label(label.round, label.cpu, label.line),
+        y: layout.label(label.turn, label.cpu, label.line),
     };
     match label.tag {
         Tag::Fault(fault, ends) => show_fault_label(out, at, fault, ends),
@@ -285,13 +334,13 @@ fn draw_label(out: &mut Page, layout: &Layout, label: &Label) {
     out.add("</text>\n");
 }
 
-// Appends messages, replies, and the bars of tokens: what lies behind.
+// Appends the bars of tokens, and over them messages and replies: what lies behind the boxes.
 fn draw_behind(out: &mut Page, names: Option<&Names>, layout: &Layout, ways: &[Way], bars: &[Bar]) {
-    for way in ways {
-        draw_way(out, names, layout, way);
-    }
     for bar in bars {
         draw_bar(out, names, layout, bar);
+    }
+    for way in ways {
+        draw_way(out, names, layout, way);
     }
 }
 
@@ -312,13 +361,17 @@ fn draw_over(
 }
 
 /// Appends what a picture has, in names if some are given: what lies behind first.
-pub(crate) fn draw_sketch(out: &mut Page, names: Option<&Names>, layout: &Layout, sketch: &Sketch) {
+pub(crate) fn draw_sketch(
+    out: &mut Page,
+    names: Option<&Names>,
+    layout: &Layout,
+    sketch: &Sketch,
+    labels: &[Label],
+) {
     draw_behind(out, names, layout, &sketch.ways, &sketch.bars);
-    for turn in &sketch.boxes {
-        draw_box(out, layout, turn);
-    }
+    draw_boxes(out, layout, &sketch.boxes);
     draw_over(out, names, layout, &sketch.marks, &sketch.values);
-    for label in &sketch.labels.list {
+    for label in labels {
         draw_label(out, layout, label);
     }
 }

@@ -1,5 +1,6 @@
 //! Labels above turns: what was refused, whose thread ended, which message was sent. No two of them overlap.
-use crate::layouts::{Grid, seat_of, zeros};
+use crate::columns::Columns;
+use crate::layouts::{seat_of, width_for, zeros};
 use crate::shapes::text_width;
 use crate::words::show_message;
 use lwkt_base::limits::CPU_LIMIT;
@@ -23,11 +24,24 @@ pub(crate) enum Tag {
     Abort(MsgId),
 }
 
-/// A label and where it stands: above the turns of a processor in a round, on which line from below, and how far from the left.
+/// What is to stand above a turn.
+#[derive(Clone, Copy)]
+pub(crate) struct Tagged {
+    /// The turn.
+    pub turn: usize,
+    /// The turn's processor, 0 to 7.
+    pub cpu: usize,
+    /// What is said of it.
+    pub tag: Tag,
+    /// Of what came to the turn from another one, that one: it is said only if that stands in another band.
+    pub since: Option<usize>,
+}
+
+/// A label and where it stands: above a turn of a processor, on which line from below, and how far from the left.
 #[derive(Drop)]
 pub(crate) struct Label {
-    /// The round of its turn, counted from 0.
-    pub round: usize,
+    /// The turn.
+    pub turn: usize,
     /// The turn's processor, 0 to 7.
     pub cpu: usize,
     /// Which line above the processor's turns, from the lowest, 0 to 69.
@@ -40,10 +54,9 @@ pub(crate) struct Label {
     pub text: String,
 }
 
-/// The labels of a picture, which come by rising round.
+/// The labels of a picture, which come by rising turn.
 #[derive(Drop)]
 pub(crate) struct Labels {
-    grid: Grid,
     // The band of the last label, and where its lines' last labels end, so many for each processor.
     band: usize,
     ends: Vec<usize>,
@@ -80,16 +93,51 @@ fn text_of(alloc: Global, names: Option<&Names>, tag: Tag) -> Result<String, Out
     out.whole()
 }
 
+// Whether what came to a turn came from another band, or from a turn that isn't shown; or nothing came.
+fn is_said(columns: &Columns, tagged: &Tagged) -> bool {
+    match tagged.since {
+        Some(since) => {
+            since < columns.span.first || columns.band(since) != columns.band(tagged.turn)
+        }
+        None => true,
+    }
+}
+
+// Where a label begins that is so wide: where no arrow crosses it that goes up from its turn, or comes to it.
+fn place_of(columns: &Columns, tagged: &Tagged, width: usize) -> usize {
+    let middle = columns.middle(tagged.turn);
+    match tagged.tag {
+        Tag::Mail(_, _) if tagged.since.is_some() => middle.saturating_add(7),
+        Tag::Mail(_, _) => middle.saturating_sub(width.saturating_add(1)),
+        Tag::Fault(_, _) | Tag::Abort(_) => columns.x(tagged.turn).saturating_add(2),
+    }
+}
+
 impl Labels {
-    /// No labels yet in these rounds.
-    pub(crate) fn new(alloc: Global, grid: Grid) -> Result<Self, OutOfMemory> {
+    // No labels yet in so many bands.
+    fn blank(alloc: Global, bands: usize) -> Result<Self, OutOfMemory> {
         Ok(Labels {
-            grid,
             band: 0,
             ends: zeros(alloc, CPU_LIMIT * LINE_LIMIT)?,
             list: Vec::new(alloc),
-            lines: zeros(alloc, seat_of(grid.bands(), 0))?,
+            lines: zeros(alloc, seat_of(bands, 0))?,
         })
+    }
+
+    /// The labels of turns in these columns, in names if some are given. One that finds no line is left out.
+    pub(crate) fn new(
+        alloc: Global,
+        names: Option<&Names>,
+        columns: &Columns,
+        tags: &[Tagged],
+    ) -> Result<Self, OutOfMemory> {
+        let mut labels = Labels::blank(alloc, columns.bands())?;
+        for tagged in tags {
+            if is_said(columns, tagged) {
+                labels.add(alloc, names, columns, *tagged)?;
+            }
+        }
+        Ok(labels)
     }
 
     // The lowest line above a processor that is free from here on, which is then taken up to there.
@@ -114,23 +162,23 @@ impl Labels {
         }
     }
 
-    /// Adds a label above a turn, in names if some are given, on the lowest line where nothing is in its way. One that finds none is left out.
-    pub(crate) fn add(
+    // Adds a label above a turn, in names if some are given, on the lowest line where nothing is in its way.
+    fn add(
         &mut self,
         alloc: Global,
         names: Option<&Names>,
-        round: usize,
-        cpu: usize,
-        tag: Tag,
+        columns: &Columns,
+        tagged: Tagged,
     ) -> Result<(), OutOfMemory> {
-        let band = self.grid.band(round);
+        let Tagged { turn, cpu, tag, .. } = tagged;
+        let band = columns.band(turn);
         if band != self.band {
             self.begin_band(band);
         }
         let text = text_of(alloc, names, tag)?;
         let width = text_width(text.len().max(3));
-        let right = self.grid.width().saturating_sub(2);
-        let x = self.grid.x(round).saturating_add(2);
+        let right = width_for(columns).saturating_sub(2);
+        let x = place_of(columns, &tagged, width);
         let x = x.min(right.saturating_sub(width));
         let Some(line) = self.take_line(cpu, x, x.saturating_add(width).saturating_add(4)) else {
             return Ok(());
@@ -139,7 +187,7 @@ impl Labels {
             *lines = line.saturating_add(1).max(*lines);
         }
         let label = Label {
-            round,
+            turn,
             cpu,
             line,
             x,

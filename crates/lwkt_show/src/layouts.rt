@@ -1,4 +1,5 @@
 //! Where the parts of a picture stand.
+use crate::columns::Columns;
 use crate::shapes::{Point, text_width};
 use lwkt_base::OutOfMemory;
 use lwkt_base::limits::{CPU_LIMIT, TOKEN_LIMIT};
@@ -8,155 +9,65 @@ use lwkt_text::Names;
 use lwkt_told::width_of;
 use std::alloc::Global;
 
-// The width of a round in which numbers stand, in pixels.
-const COLUMN: usize = 32;
-
 /// The most letters of a name that a box shows.
 pub(crate) const NAME_LETTERS: usize = 12;
 
-/// The height of a row, in pixels.
-pub(crate) const ROW: usize = 14;
+/// The height of a turn's box, and that of a token's row, in pixels.
+pub(crate) const BOX: usize = 32;
 
-const LINE: usize = 11;
+pub(crate) const ROW: usize = 17;
+
+// The height of a line of labels.
+const LINE: usize = 14;
 
 // How far above a box its lowest label stands: an arrow's head fits between them.
-const LIFT: usize = 8;
+const LIFT: usize = 9;
 
-// How many rounds stand beside each other at most, if numbers stand in them.
-const BAND: usize = 40;
+// How far below a box its processor's rows begin.
+const DROP: usize = 7;
 
-// What stands left of a band's first round at least and right of its last, how wide a picture is at least, and what stands above all
+// What stands left of a band's first turn at least and right of its last, how wide a picture is at least, and what stands above all
 // bands and between two processors.
-const LEFT: usize = 76;
+const LEFT: usize = 100;
 
 const RIGHT: usize = 12;
 
-const NARROWEST: usize = 620;
+const NARROWEST: usize = 720;
 
-const HEAD: usize = 14;
+const HEAD: usize = 16;
 
 const GAP: usize = 8;
 
-/// How wide the parts of a picture are, in pixels.
-#[derive(Clone, Copy)]
-pub(crate) struct Widths {
-    /// What stands left of a band's first round.
-    pub left: usize,
-    /// A round.
-    pub column: usize,
-}
+/// The most letters of a name that stand at the left.
+pub(crate) const LEFT_LETTERS: usize = 20;
 
-/// How wide the parts of a picture have to be for some names, or else for numbers.
-pub(crate) fn widths_for(names: Option<&Names>) -> Widths {
-    let Some(names) = names else {
-        return Widths {
-            left: LEFT,
-            column: COLUMN,
-        };
-    };
-    let letters = width_of(names);
-    let inside = text_width(letters.min(NAME_LETTERS));
-    Widths {
-        left: text_width(letters).saturating_add(24).max(LEFT),
-        column: inside.saturating_add(14).max(COLUMN),
+/// What stands left of a band's first turn, with some names or else with numbers.
+pub(crate) fn left_for(names: Option<&Names>) -> usize {
+    match names {
+        Some(names) => {
+            let letters = width_of(names).min(LEFT_LETTERS);
+            text_width(letters).saturating_add(24).max(LEFT)
+        }
+        None => LEFT,
     }
 }
 
-/// The rounds that a picture shows, in bands below each other.
-#[derive(Clone, Copy)]
-pub(crate) struct Grid {
-    /// The first round that is shown, counted from 0.
-    pub first: usize,
-    /// The last one.
-    pub last: usize,
-    /// How wide its parts are.
-    pub widths: Widths,
-}
-
-impl Grid {
-    ghost use Rattle.std.specs.Prelude.{◌<◌};
-
-    // How many rounds stand beside each other at most.
-    fn across(&self) -> usize
-        ensures { 0 < result }
-    {
-        let column = self.widths.column;
-        let fit = if column == 0 {
-            0
-        } else {
-            BAND * COLUMN / column
-        };
-        if fit == 0 { 1 } else { fit }
-    }
-
-    // Which one of those shown a round is, from 0. One before them counts as the first, one behind them as the last.
-    fn place(&self, round: usize) -> usize {
-        round.min(self.last).saturating_sub(self.first)
-    }
-
-    /// The band in which a round stands.
-    pub(crate) fn band(&self, round: usize) -> usize {
-        self.place(round) / self.across()
-    }
-
-    /// How many bands there are.
-    pub(crate) fn bands(&self) -> usize {
-        self.band(self.last).saturating_add(1)
-    }
-
-    /// The first round of a band.
-    pub(crate) fn begin(&self, band: usize) -> usize {
-        self.first
-            .saturating_add(band.saturating_mul(self.across()))
-    }
-
-    /// The last round of a band.
-    pub(crate) fn end(&self, band: usize) -> usize {
-        self.begin(band)
-            .saturating_add(self.across() - 1)
-            .min(self.last)
-    }
-
-    /// Where a round begins.
-    pub(crate) fn x(&self, round: usize) -> usize {
-        let place = self.place(round) % self.across();
-        self.widths
-            .left
-            .saturating_add(place.saturating_mul(self.widths.column))
-    }
-
-    /// Where a band ends.
-    pub(crate) fn right(&self, band: usize) -> usize {
-        self.x(self.end(band)).saturating_add(self.widths.column)
-    }
-
-    /// How wide the picture is.
-    pub(crate) fn width(&self) -> usize {
-        self.right(0).saturating_add(RIGHT).max(NARROWEST)
-    }
-
-    /// Whether something that goes on from a round to another is in the picture.
-    pub(crate) fn is_shown(&self, since: usize, until: usize) -> bool {
-        until >= self.first && since <= self.last
-    }
-}
-
-/// A token of a processor in a round.
+/// A token of a processor in a turn.
 #[derive(Clone, Copy)]
 pub(crate) struct Spot {
     /// The processor, 0 to 7.
     pub cpu: usize,
     /// The token, 0 to 63.
     pub tok: usize,
-    /// The round.
-    pub round: usize,
+    /// The turn.
+    pub turn: usize,
 }
 
 /// Where the parts of a picture stand.
 #[derive(Drop)]
 pub(crate) struct Layout {
-    /// The rounds that are shown.
-    pub grid: Grid,
+    /// The turns that are shown.
+    pub columns: Columns,
     // Of each band where its numbers of rounds stand, and where the turns of each of 8 processors do.
     heads: Vec<usize>,
     tops: Vec<usize>,
@@ -209,7 +120,7 @@ pub(crate) fn zeros(alloc: Global, count: usize) -> Result<Vec<usize>, OutOfMemo
 
 // Puts the rows of a processor below its turns, and says how high turns and rows are together.
 fn place_rows(rows: &mut [usize], cpu: usize) -> usize {
-    let mut at = ROW + 6;
+    let mut at = BOX + DROP;
     for tok in 0..TOKEN_LIMIT {
         if let Some(row) = rows.get_mut(slot_of(cpu, tok)) {
             if *row > 0 {
@@ -254,12 +165,12 @@ fn place_band(
 }
 
 impl Layout {
-    /// The layout of so many processors over these rounds of a run with this trace, with so many lines of labels above each
-    /// processor of each band.
+    /// The layout of so many processors over these columns of a run with this trace, with so many lines of labels above each processor
+    /// of each band.
     pub(crate) fn new(
         alloc: Global,
         cpus: usize,
-        grid: Grid,
+        columns: Columns,
         trace: &[Event],
         lines: &[usize],
     ) -> Result<Self, OutOfMemory> {
@@ -268,12 +179,12 @@ impl Layout {
         let mut heads = Vec::new(alloc);
         let mut tops = Vec::new(alloc);
         let mut at = HEAD;
-        for band in 0..grid.bands() {
+        for band in 0..columns.bands() {
             push(&mut heads, at)?;
             at = place_band(&mut tops, band, &depths, lines, at)?;
         }
         Ok(Layout {
-            grid,
+            columns,
             heads,
             tops,
             rows,
@@ -284,6 +195,14 @@ impl Layout {
     /// Where the numbers of a band's rounds stand.
     pub(crate) fn head(&self, band: usize) -> usize {
         number_at(&self.heads, band)
+    }
+
+    /// Where a band ends below.
+    pub(crate) fn foot(&self, band: usize) -> usize {
+        match self.heads.get(band.saturating_add(1)) {
+            Some(head) => head.saturating_sub(3 * GAP),
+            None => self.height.saturating_sub(3 * GAP),
+        }
     }
 
     /// Where a processor's turns stand in a band.
@@ -300,26 +219,31 @@ impl Layout {
         Some(self.top(band, cpu).saturating_add(below))
     }
 
-    /// Where a processor's turn of a round stands.
-    pub(crate) fn turn(&self, round: usize, cpu: usize) -> Point {
+    /// Where a processor's turn stands.
+    pub(crate) fn turn(&self, turn: usize, cpu: usize) -> Point {
         Point {
-            x: self.grid.x(round),
-            y: self.top(self.grid.band(round), cpu),
+            x: self.columns.x(turn),
+            y: self.top(self.columns.band(turn), cpu),
         }
     }
 
-    /// Where a round of a token of a processor stands, if the token has a row.
+    /// Where a turn of a token of a processor stands, if the token has a row.
     pub(crate) fn spot(&self, spot: Spot) -> Option<Point> {
-        let y = self.row(self.grid.band(spot.round), spot.cpu, spot.tok)?;
+        let y = self.row(self.columns.band(spot.turn), spot.cpu, spot.tok)?;
         Some(Point {
-            x: self.grid.x(spot.round),
+            x: self.columns.x(spot.turn),
             y,
         })
     }
 
-    /// How high a line of labels stands above a processor's turn of a round.
-    pub(crate) fn label(&self, round: usize, cpu: usize, line: usize) -> usize {
+    /// How high a line of labels stands above a processor's turn.
+    pub(crate) fn label(&self, turn: usize, cpu: usize, line: usize) -> usize {
         let lift = line.saturating_mul(LINE).saturating_add(LIFT);
-        self.turn(round, cpu).y.saturating_sub(lift)
+        self.turn(turn, cpu).y.saturating_sub(lift)
     }
+}
+
+/// How wide a picture with these columns is.
+pub(crate) fn width_for(columns: &Columns) -> usize {
+    columns.widest().saturating_add(RIGHT).max(NARROWEST)
 }

@@ -1,9 +1,10 @@
 //! What the parts of a picture mean, of those that it has.
-use crate::boxes::{Content, Kind, Labelled, show_box};
-use crate::drawings::{bar_class, show_stored};
+use crate::boxes::{Below, Content, Kind, Labelled, show_box, width_for};
+use crate::columns::Column;
+use crate::drawings::show_stored;
 use crate::labels::{Label, Tag};
 use crate::shapes::{
-    BOLD, Look, Point, show_flag, show_label, show_line, show_rect, show_ring, show_text_at,
+    BOLD, Look, Point, digits, show_bar, show_flag, show_label, show_line, show_ring, show_text_at,
     show_word, text_width,
 };
 use crate::sketches::{Bar, Sketch, Stored, TurnBox, Way};
@@ -13,12 +14,18 @@ use lwkt_text::Names;
 use std::alloc::Global;
 
 // How high a line of the legend is, and what stands between two of its parts.
-const LINE: usize = 20;
+const LINE: usize = 24;
 
 const GAP: usize = 14;
 
+// How far below the top of a line its words stand.
+const BASE: usize = 14;
+
 // How wide the sign of a line or a bar is.
 const SIGN: usize = 24;
+
+// The most letters of a value on a bar.
+const VALUE_LETTERS: usize = 12;
 
 // The most letters of a fault's text, and the most faults that are shown.
 const FAULT_LETTERS: usize = 40;
@@ -50,7 +57,7 @@ impl Legend {
 
     // Appends a meaning behind a sign that is so wide.
     fn mean(&mut self, at: Point, sign: usize, meaning: &str) {
-        let at = at.by(sign.saturating_add(4), 10);
+        let at = at.by(sign.saturating_add(4), BASE);
         show_word(&mut self.page, at, meaning);
         self.page.add("\n");
     }
@@ -63,28 +70,28 @@ impl Legend {
     }
 
     // Appends the sign of a bar and its meaning.
-    fn add_bar(&mut self, mode: Mode, meaning: &str) {
+    fn add_bar(&mut self, tok: usize, mode: Mode, meaning: &str) {
         let at = self.next(SIGN, meaning.len());
-        show_rect(&mut self.page, at.by(0, 2), SIGN, 10, bar_class(mode));
-        self.page.add("/>");
+        show_bar(&mut self.page, at.by(0, 3), SIGN, 14, tok, mode);
         self.mean(at, SIGN, meaning);
     }
 
     // Appends a value on a bar, and the meaning of values.
     fn add_value(&mut self, names: Option<&Names>, stored: &Stored) {
-        let meaning = "a cell and what it is now";
-        let at = self.next(2 * SIGN, meaning.len());
-        show_rect(&mut self.page, at.by(0, 2), 2 * SIGN, 10, "full");
-        self.page.add("/>");
-        show_stored(&mut self.page, names, at.by(3, 11), stored, 7);
-        self.mean(at, 2 * SIGN, meaning);
+        let meaning = "a cell and its value, read or written";
+        let sign = text_width(VALUE_LETTERS).saturating_add(8);
+        let at = self.next(sign, meaning.len());
+        let tok = stored.spot.tok;
+        show_bar(&mut self.page, at.by(0, 3), sign, 14, tok, stored.mode);
+        show_stored(&mut self.page, names, at.by(4, 14), stored, VALUE_LETTERS);
+        self.mean(at, sign, meaning);
     }
 
     // Appends the flag of marks, and its meaning.
     fn add_flag(&mut self) {
         let meaning = "marked by this processor, which wants it exclusively";
         let at = self.next(SIGN / 2, meaning.len());
-        show_flag(&mut self.page, at.by(1, 0));
+        show_flag(&mut self.page, at.by(1, 3));
         self.page.add("/>");
         self.mean(at, SIGN / 2, meaning);
     }
@@ -96,7 +103,7 @@ impl Legend {
             is_reply,
             is_urgent,
         };
-        show_line(&mut self.page, at.by(0, 7), at.by(SIGN, 7), look, true);
+        show_line(&mut self.page, at.by(0, 10), at.by(SIGN, 10), look, true);
         self.mean(at, SIGN, meaning);
     }
 
@@ -104,7 +111,7 @@ impl Legend {
     fn add_ring(&mut self) {
         let meaning = "not taken";
         let at = self.next(SIGN / 2, meaning.len());
-        show_ring(&mut self.page, at.by(4, 0));
+        show_ring(&mut self.page, at.by(4, 2));
         self.mean(at, SIGN / 2, meaning);
     }
 
@@ -112,7 +119,16 @@ impl Legend {
     fn add_word(&mut self, word: &str, meaning: &str) {
         let sign = text_width(word.len());
         let at = self.next(sign, meaning.len());
-        show_word(&mut self.page, at.by(0, 10), word);
+        show_word(&mut self.page, at.by(0, BASE), word);
+        self.mean(at, sign, meaning);
+    }
+
+    // Appends how many rounds share a column, and what that means.
+    fn add_rounds(&mut self, rounds: usize) {
+        let meaning = "so many times nothing changes";
+        let sign = text_width(digits(rounds as u64).saturating_add(1));
+        let at = self.next(sign, meaning.len());
+        show_label(&mut self.page, at.by(0, BASE), "", "&#215;", rounds);
         self.mean(at, sign, meaning);
     }
 
@@ -120,8 +136,8 @@ impl Legend {
     fn add_fault(&mut self, sign: &str, fault: Fault) {
         let at = self.next(SIGN, FAULT_LETTERS);
         let number = usize::from(fault.number());
-        show_label(&mut self.page, at.by(0, 10), BOLD, sign, number);
-        show_text_at(&mut self.page, at.by(SIGN + 4, 10), "");
+        show_label(&mut self.page, at.by(0, BASE), BOLD, sign, number);
+        show_text_at(&mut self.page, at.by(SIGN + 4, BASE), "");
         self.page.fault("", fault);
         self.page.add("</text>\n");
     }
@@ -148,19 +164,35 @@ fn add_kind(legend: &mut Legend, sketch: &Sketch, kind: Option<Kind>, meaning: &
             more: kind.is_none(),
             ..turn.content
         };
+        let label = turn.label.as_str();
         let shown = Labelled {
             content,
-            label: turn.label.as_str(),
-            width: sketch.grid.widths.column,
+            label,
+            below: Below::Nothing,
+            width: width_for(content, label, Below::Nothing, false),
+            height: 20,
         };
         legend.add_box(shown, meaning);
+    }
+}
+
+// Whether the first box of a thread that runs says what it does below the thread.
+fn has_deeds(boxes: &[TurnBox]) -> bool {
+    match first_box(boxes, Some(Kind::Thread)) {
+        Some(turn) => !turn.deed.is_empty(),
+        None => false,
     }
 }
 
 // Appends what boxes mean.
 fn add_boxes(legend: &mut Legend, sketch: &Sketch) {
     let reply = "none runs: one waits for the reply to this message";
-    add_kind(legend, sketch, Some(Kind::Thread), "this thread runs");
+    let runs = if has_deeds(&sketch.boxes) {
+        "this thread runs, and does what stands below"
+    } else {
+        "what the thread does: = writes, + adds"
+    };
+    add_kind(legend, sketch, Some(Kind::Thread), runs);
     add_kind(
         legend,
         sketch,
@@ -179,11 +211,20 @@ fn add_boxes(legend: &mut Legend, sketch: &Sketch) {
     add_kind(legend, sketch, Some(Kind::Empty), "no thread is left");
 }
 
+// Appends what the number of rounds means that share a column, where some do.
+fn add_folds(legend: &mut Legend, columns: &[Column]) {
+    for column in columns {
+        if column.rounds > 1 {
+            return legend.add_rounds(column.rounds);
+        }
+    }
+}
+
 // Appends what the bars of a mode mean, where there is one.
 fn add_bars(legend: &mut Legend, bars: &[Bar], mode: Mode, meaning: &str) {
     for bar in bars {
         if bar.mode == mode {
-            return legend.add_bar(mode, meaning);
+            return legend.add_bar(bar.spot.tok, mode, meaning);
         }
     }
 }
@@ -297,6 +338,8 @@ pub(crate) fn legend_of(
     alloc: Global,
     names: Option<&Names>,
     sketch: &Sketch,
+    columns: &[Column],
+    labels: &[Label],
     y: usize,
     width: usize,
 ) -> (Page, usize) {
@@ -305,8 +348,8 @@ pub(crate) fn legend_of(
         at: Point { x: 4, y },
         width,
     };
-    let labels = sketch.labels.list.as_slice();
     add_boxes(&mut legend, sketch);
+    add_folds(&mut legend, columns);
     add_rows(&mut legend, names, sketch);
     add_ways(&mut legend, names, &sketch.ways);
     add_faults(

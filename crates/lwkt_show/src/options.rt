@@ -11,6 +11,10 @@ pub enum Rendering {
     Picture,
     /// The written sections of each token.
     Chains,
+    /// A page that plays the turns that are chosen, in HTML.
+    Player,
+    /// A timeline of the turns that are chosen, in JSON of the trace event format.
+    Timeline,
 }
 
 /// What a range counts.

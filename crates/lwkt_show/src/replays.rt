@@ -9,7 +9,8 @@ use crate::words::{fill, show_token};
 use lwkt_base::limits::{MESSAGE_LIMIT, TOKEN_LIMIT};
 use lwkt_base::memory::push;
 use lwkt_base::{
-    Answer, Ask, Blob, Fault, Law, MsgId, OutOfMemory, ThreadId, ThreadLine, ThreadState, TokId,
+    Answer, Ask, Blob, Fault, Law, MsgId, OutOfMemory, Owner, ThreadId, ThreadLine, ThreadState,
+    TokId,
 };
 use lwkt_core::{Event, State};
 use lwkt_refusals::{Page, show_breach};
@@ -125,6 +126,26 @@ impl Replay {
             urgent: [false; MESSAGE_LIMIT],
             marked_by: [None; TOKEN_LIMIT],
         })
+    }
+
+    /// The thread that a message was last sent to.
+    pub(crate) fn receiver(&self, msg: MsgId) -> ThreadId {
+        self.sent_to
+            .get(usize::from(msg.0))
+            .copied()
+            .unwrap_or(ThreadId::default())
+    }
+
+    /// Whether a message is on its way to a thread: as a request, or as the reply to one of its own.
+    pub(crate) fn comes_to(&self, msg: MsgId, id: ThreadId) -> bool {
+        let Some(message) = self.state.message(msg) else {
+            return false;
+        };
+        match message.owner {
+            Owner::Out { .. } => self.receiver(msg) == id,
+            Owner::Back { .. } => message.origin == id,
+            Owner::Rest { .. } | Owner::With { .. } => false,
+        }
     }
 
     /// Whether a message was last sent with priority.

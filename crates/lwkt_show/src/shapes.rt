@@ -1,18 +1,63 @@
 //! The shapes of a picture, and how long its words are.
+use lwkt_base::Mode;
 use lwkt_refusals::Page;
 
 /// The class of a text in bold.
 pub(crate) const BOLD: &str = " class=\"bold\"";
 
-/// The class of a text on a full bar.
-pub(crate) const VALUE: &str = " class=\"value\"";
+/// The class of a token's bar, by its colour: eight that are told apart also by those who see few colours.
+pub(crate) fn colour_class(tok: usize) -> &'static str {
+    match tok % 8 {
+        0 => "bar t0",
+        1 => "bar t1",
+        2 => "bar t2",
+        3 => "bar t3",
+        4 => "bar t4",
+        5 => "bar t5",
+        6 => "bar t6",
+        _ => "bar t7",
+    }
+}
+
+/// The class of a text on a token's bar: white on a dark colour, black on a light one, and with a white edge on what is hatched.
+pub(crate) fn value_class(tok: usize, mode: Mode) -> &'static str {
+    match mode {
+        Mode::Shared => "",
+        Mode::Exclusive => match tok % 8 {
+            0 | 7 => " class=\"light\"",
+            _ => " class=\"dark\"",
+        },
+    }
+}
+
+/// Appends a bar of a token, hatched if it is shared.
+pub(crate) fn show_bar(
+    out: &mut Page,
+    at: Point,
+    width: usize,
+    height: usize,
+    tok: usize,
+    mode: Mode,
+) {
+    show_rect(out, at, width, height, colour_class(tok));
+    out.add("/>");
+    if mode == Mode::Shared {
+        show_rect(out, at, width, height, "shared");
+        out.add("/>");
+    }
+}
 
 /// How wide so many letters are, in pixels.
 pub(crate) fn text_width(letters: usize) -> usize {
     letters
-        .saturating_mul(6)
-        .saturating_add(letters / 16)
+        .saturating_mul(7)
+        .saturating_add(letters / 4)
         .saturating_add(1)
+}
+
+/// How many letters have room in so many pixels.
+pub(crate) fn letters_in(width: usize) -> usize {
+    width.saturating_mul(4) / 29
 }
 
 /// How many digits a number has.
@@ -129,14 +174,29 @@ pub(crate) struct Look {
     pub is_urgent: bool,
 }
 
-/// Appends a line of a message, dashed for a reply and thick if it is urgent; with an arrow head if it arrives.
-pub(crate) fn show_line(out: &mut Page, from: Point, to: Point, look: Look, arrives: bool) {
+// Appends the beginning of a line of a class.
+fn begin_line(out: &mut Page, from: Point, to: Point, class: &str) {
     let numbers = [from.x, from.y, to.x, to.y];
     draw(
         out,
-        "<line x1=\"@\" y1=\"@\" x2=\"@\" y2=\"@\" class=\"way\"",
+        "<line x1=\"@\" y1=\"@\" x2=\"@\" y2=\"@\" class=\"",
         &numbers,
     );
+    out.add(class);
+    out.add("\"");
+}
+
+/// Appends a line of a class.
+pub(crate) fn show_rule(out: &mut Page, from: Point, to: Point, class: &str) {
+    begin_line(out, from, to, class);
+    out.add("/>");
+}
+
+/// Appends a line of a message, dashed for a reply and thick if it is urgent; with an arrow head if it arrives. A white line below keeps
+/// it apart from what it crosses.
+pub(crate) fn show_line(out: &mut Page, from: Point, to: Point, look: Look, arrives: bool) {
+    show_rule(out, from, to, "under");
+    begin_line(out, from, to, "way");
     if look.is_urgent {
         out.add(" style=\"stroke-width:3\"");
     }

@@ -9,7 +9,9 @@ use crate::chains::{chains_of, chains_of_sections};
 use crate::lines::lines_of;
 use crate::options::{Options, Rendering};
 use crate::pictures::picture_of;
+use crate::players::player_of;
 use crate::reels::Reel;
+use crate::timelines::timeline_of;
 use lwkt_base::Fault;
 use lwkt_run::{
     End, ThreadRecord, TurnsRun, end_of_closing, order_run_of, record_threads, turns_run_of,
@@ -77,6 +79,8 @@ fn text_of(
         Rendering::Trace => Ok(trace_text(alloc, script, &events, &run.closing)?),
         Rendering::Picture => picture_of(alloc, names, &reel, options),
         Rendering::Chains => Ok(chains_of(alloc, names, &reel)?),
+        Rendering::Player => player_of(alloc, names, &reel, options),
+        Rendering::Timeline => timeline_of(alloc, names, &reel, options),
     }
 }
 

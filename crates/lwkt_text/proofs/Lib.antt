@@ -4,6 +4,7 @@ pub mod Inputting
 pub mod ListedThreads
 pub mod Presence
 pub mod Reaching
+pub mod Joining
 pub mod Linking
 pub mod Ending
 pub mod Spreading

@@ -6,7 +6,7 @@ use Rattle.lwkt_script.specs.declared.scripts.Script.{Script}
 use Rattle.lwkt_text.specs.declared.claims.Expectation.{Expectation}
 use Rattle.lwkt_text.specs.declared.wrongs.Mention.{Mention}
 use Rattle.lwkt_text.specs.declared.wrongs.Wrong.{Wrong}
-use Rattle.lwkt_text.specs.Absence.{absence, absent_part, NamesWhatIsThere}
+use Rattle.lwkt_text.specs.Absence.{absence, absent_fact, NamesWhatIsThere}
 
 map_none : (f : Mention → Wrong) (o : Option Mention) → option_map f o ≡ None → o ≡ None
 map_none f None h = refl
@@ -17,10 +17,10 @@ cons_none None ws h = (refl, h)
 cons_none (Some w) ws h = absurd (cc)
 
 nothing_absent : (s : Script) (es : List Expectation) → filter_map (absence s) es ≡ [] → NamesWhatIsThere s es
-nothing_absent s [] h = All-nil (λ e. absent_part s e.claim ≡ None)
+nothing_absent s [] h = All-nil (λ e. absent_fact s e.claim ≡ None)
 nothing_absent s (e ∷ es) h =
     let both : (absence s e ≡ None) × (filter_map (absence s) es ≡ []) = cons_none (absence s e) (filter_map (absence s) es) h in
-    All-cons (λ e. absent_part s e.claim ≡ None) e es (map_none _ (absent_part s e.claim) both.0) (nothing_absent s es both.1)
+    All-cons (λ e. absent_fact s e.claim ≡ None) e es (map_none _ (absent_fact s e.claim) both.0) (nothing_absent s es both.1)
 
 empty : (ws : List Wrong) → length ws ≡ 0 → ws ≡ []
 empty [] h = refl

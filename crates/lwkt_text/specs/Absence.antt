@@ -1,16 +1,16 @@
 -- Whether what a claim names is there (own).
 use Rattle.std.specs.Prelude.{◌≡◌, ℕ, ◌&&◌, nat_lt, List, [], ◌∷◌, length, slice_get, All, Bool, true, false, if◌then◌else◌, Option, Some, None, option_map, unwrap_or}
-use Rattle.lwkt_base.specs.declared.entries.Entry.{Entry}
-use Rattle.lwkt_base.specs.declared.entries.Entry.TheVariants as entries
 use Rattle.lwkt_base.specs.declared.laws.Law.{Law}
 use Rattle.lwkt_base.specs.declared.laws.Law.TheVariants.{Any, Sum, Order, Cap, Tally, Len}
 use Rattle.lwkt_base.specs.declared.names.ThreadId.{ThreadId}
 use Rattle.lwkt_base.specs.declared.names.TokId.{TokId}
 use Rattle.lwkt_script.specs.declared.scripts.Script.{Script}
 use Rattle.lwkt_script.specs.Format.{threads_on}
-use Rattle.lwkt_text.specs.declared.claims.Claim.{Claim}
-use Rattle.lwkt_text.specs.declared.claims.Claim.TheVariants as claims
 use Rattle.lwkt_text.specs.declared.claims.Expectation.{Expectation}
+use Rattle.lwkt_text.specs.declared.claims.Fact.{Fact}
+use Rattle.lwkt_text.specs.declared.claims.Fact.TheVariants as facts
+use Rattle.lwkt_text.specs.declared.claims.Pattern.{Pattern}
+use Rattle.lwkt_text.specs.declared.claims.Pattern.TheVariants as patterns
 use Rattle.lwkt_text.specs.declared.claims.Quantity.{Quantity}
 use Rattle.lwkt_text.specs.declared.claims.Quantity.TheVariants as quantities
 use Rattle.lwkt_text.specs.declared.wrongs.Mention.{Mention}
@@ -18,6 +18,7 @@ use Rattle.lwkt_text.specs.declared.wrongs.Mention.TheVariants as mentions
 use Rattle.lwkt_text.specs.declared.wrongs.What.TheVariants.{Absent}
 use Rattle.lwkt_text.specs.declared.wrongs.Wrong.{Wrong}
 use Rattle.lwkt_text.specs.Naming.{either}
+use Rattle.lwkt_text.specs.Statements.{Statement, fact, each_of, one_of, none_of}
 
 -- how many cells a token has; none where there is no such token
 abbrev pub cell_count : Script → TokId → ℕ
@@ -65,26 +66,34 @@ absent_term s [] = None
 absent_term s (q ∷ qs) = either (absent_quantity s q) (absent_term s qs)
 
 -- the message of an entry, if the script doesn't have it
-abbrev pub absent_entry : Script → Entry → Option Mention
-absent_entry s (entries.Request msg call) = absent s (mentions.Message msg)
-absent_entry s (entries.Reply msg error outcome) = absent s (mentions.Message msg)
-absent_entry s (entries.Dropped msg call) = absent s (mentions.Message msg)
-absent_entry s _ = None
+abbrev pub absent_pattern : Script → Pattern → Option Mention
+absent_pattern s (patterns.Request msg call) = absent s (mentions.Message msg)
+absent_pattern s (patterns.Reply msg error outcome) = absent s (mentions.Message msg)
+absent_pattern s (patterns.Dropped msg call) = absent s (mentions.Message msg)
+absent_pattern s _ = None
+
+-- the first that a fact names and the script doesn't have
+abbrev pub absent_part : Script → Fact → Option Mention
+absent_part s facts.Ended = None
+absent_part s facts.Stuck = None
+absent_part s (facts.Faulted n) = None
+absent_part s (facts.Logged id pattern) = either (absent s (mentions.Thread id)) (absent_pattern s pattern)
+absent_part s (facts.Unlogged pattern) = absent_pattern s pattern
+absent_part s (facts.InState id claimed) = absent s (mentions.Thread id)
+absent_part s (facts.Lies msg place) = absent s (mentions.Message msg)
+absent_part s (facts.Compares sums) = either (absent_term s sums.left) (absent_term s sums.right)
 
 -- the first that a claim names and the script doesn't have
-abbrev pub absent_part : Script → Claim → Option Mention
-absent_part s claims.Ended = None
-absent_part s claims.Stuck = None
-absent_part s (claims.Faulted n) = None
-absent_part s (claims.Logged id entry) = either (absent s (mentions.Thread id)) (absent_entry s entry)
-absent_part s (claims.InState id claimed) = absent s (mentions.Thread id)
-absent_part s (claims.Lies msg place) = absent s (mentions.Message msg)
-absent_part s (claims.Compares sums) = either (absent_term s sums.left) (absent_term s sums.right)
+abbrev pub absent_fact : Script → Statement → Option Mention
+absent_fact s (fact f) = absent_part s f
+absent_fact s (each_of a b) = either (absent_fact s a) (absent_fact s b)
+absent_fact s (one_of a b) = either (absent_fact s a) (absent_fact s b)
+absent_fact s (none_of a) = absent_fact s a
 
 -- what is wrong with a claim that names what the script doesn't have, at the place of its expectation
 abbrev pub absence : Script → Expectation → Option Wrong
-absence s e = option_map (λ m. record { at = e.at; what = Absent m }) (absent_part s e.claim)
+absence s e = option_map (λ m. record { at = e.at; what = Absent m }) (absent_fact s e.claim)
 
 -- each token, cell, tally, message and thread that a claim names is there
 abbrev pub NamesWhatIsThere : Script → List Expectation → Type 0
-NamesWhatIsThere s expectations = All (λ e. absent_part s e.claim ≡ None) expectations
+NamesWhatIsThere s expectations = All (λ e. absent_fact s e.claim ≡ None) expectations

@@ -1,13 +1,14 @@
--- What a text says of outcomes (own).
+-- What a text says of outcomes without `and`, `or` and `not` (own).
 use Rattle.std.specs.Prelude.{ℕ, ◌+◌, ◌==◌, List, [], ◌∷◌, ◌++◌, codes, bytes_eq, if◌then◌else◌, Option, Some, None, Result, Ok, Err}
-use Rattle.lwkt_base.specs.declared.entries.Entry.{Entry}
-use Rattle.lwkt_base.specs.declared.entries.Entry.TheVariants as entries
 use Rattle.lwkt_base.specs.declared.message_words.MsgState.{MsgState}
 use Rattle.lwkt_base.specs.declared.message_words.MsgState.TheVariants as places
 use Rattle.lwkt_base.specs.declared.names.ThreadId.{ThreadId}
 use Rattle.lwkt_base.specs.declared.limits.TheConstants.{MOST_CODE, RECORD_LIMIT}
-use Rattle.lwkt_text.specs.declared.claims.Claim.{Claim}
-use Rattle.lwkt_text.specs.declared.claims.Claim.TheVariants as claims
+use Rattle.lwkt_text.specs.declared.claims.Fact.{Fact}
+use Rattle.lwkt_text.specs.declared.claims.Fact.TheVariants as facts
+use Rattle.lwkt_text.specs.declared.claims.Pattern.{Pattern}
+use Rattle.lwkt_text.specs.declared.claims.Pattern.TheVariants as patterns
+use Rattle.lwkt_text.specs.declared.claims.SaidCall.{SaidCall}
 use Rattle.lwkt_text.specs.declared.claims.Quantity.{Quantity}
 use Rattle.lwkt_text.specs.declared.claims.Quantity.TheVariants as quantities
 use Rattle.lwkt_text.specs.declared.claims.Relation.{Relation}
@@ -21,10 +22,10 @@ use Rattle.lwkt_text.specs.declared.words.Word.{Word}
 use Rattle.lwkt_text.specs.declared.wrongs.Wanted.TheVariants as wanted
 use Rattle.lwkt_text.specs.declared.wrongs.What.TheVariants as whats
 use Rattle.lwkt_text.specs.declared.wrongs.Wrong.{Wrong}
-use Rattle.lwkt_text.specs.Looking.{text_at, is_at, part_at, demand_at, ends_at, wrong_at, decimal_number, number_at, bytes_at}
+use Rattle.lwkt_text.specs.Looking.{text_at, is_at, part_at, demand_at, ends_at, wrong_at, decimal_number, number_at, bytes_at, past_key}
 use Rattle.lwkt_text.specs.Naming.{token_id_at, message_id_at, cell_by_words, named_thread}
 use Rattle.lwkt_text.specs.Outcome.{◌>>=◌, ◌>>◌}
-use Rattle.lwkt_text.specs.Stepping.{call_at, call_end, last_number}
+use Rattle.lwkt_text.specs.Stepping.{call_end}
 
 -- a quantity, and the place behind it
 abbrev pub term : Quantity → ℕ → Term
@@ -90,13 +91,13 @@ abbrev pub relation_at : List Word → ℕ → Result Relation Wrong
 relation_at ws i = part_at ws i whats.Relation (named_relation (text_at ws i))
 
 -- `SUM RELATION SUM` from word 1 on
-unfoldable pub compared_claim : Names → List Word → Result Claim Wrong
-compared_claim names ws = do
+unfoldable pub compared_fact : Names → List Word → Result Fact Wrong
+compared_fact names ws = do
   left ← sum_at names ws 1
   relation ← relation_at ws left.end
   right ← sum_at names ws (left.end + 1)
   ends_at ws right.end
-  Ok (claims.Compares (record { left = left.terms; relation = relation; right = right.terms }))
+  Ok (facts.Compares (record { left = left.terms; relation = relation; right = right.terms }))
 
 -- the state of a word
 abbrev pub state_named : List ℕ → Option ClaimedState
@@ -128,78 +129,97 @@ abbrev pub subject : Names → List Word → Result ThreadId Wrong
 subject names ws = part_at ws 1 whats.Thread (named_thread names (text_at ws 1))
 
 -- `saw N`
-abbrev pub saw_entry : List Word → Result Entry Wrong
-saw_entry ws = number_at ws 3 0 18446744073709551615 >>= λ n. ends_at ws 4 >> Ok (entries.Value n)
+abbrev pub saw_pattern : List Word → Result Pattern Wrong
+saw_pattern ws = number_at ws 3 0 18446744073709551615 >>= λ n. ends_at ws 4 >> Ok (patterns.Value n)
 
 -- `found BYTES`
-abbrev pub found_entry : List Word → Result Entry Wrong
-found_entry ws = bytes_at ws 3 RECORD_LIMIT >>= λ blob. ends_at ws 4 >> Ok (entries.Bytes blob)
+abbrev pub found_pattern : List Word → Result Pattern Wrong
+found_pattern ws = bytes_at ws 3 RECORD_LIMIT >>= λ blob. ends_at ws 4 >> Ok (patterns.Bytes blob)
 
--- `refused N`
-abbrev pub refused_entry : List Word → Result Entry Wrong
-refused_entry ws = number_at ws 3 0 255 >>= λ n. ends_at ws 4 >> Ok (entries.Refused n)
+-- a number that may stand at the end, at word i: where it is left out, any is meant
+abbrev pub last_said : List Word → ℕ → ℕ → Result (Option ℕ) Wrong
+last_said ws i high = if is_at ws i (codes "") then Ok None else number_at ws i 0 high >>= λ n. Ok (Some n)
+
+-- the value of the key that word i may be
+abbrev pub keyed : List Word → ℕ → List ℕ → ℕ → Result (Option ℕ) Wrong
+keyed ws i key high = if is_at ws i key then (number_at ws (i + 1) 0 high >>= λ n. Ok (Some n)) else Ok None
+
+-- `op N arg N` from word i on, each of them any where it is left out
+unfoldable pub said_call_at : List Word → ℕ → Result SaidCall Wrong
+said_call_at ws i = do
+  op ← keyed ws i (codes "op") MOST_CODE
+  arg ← keyed ws (past_key ws i (codes "op")) (codes "arg") 18446744073709551615
+  Ok (record { op = op; arg = arg })
+
+-- `refused N`, or with any number
+abbrev pub refused_pattern : List Word → Result Pattern Wrong
+refused_pattern ws = last_said ws 3 255 >>= λ n. ends_at ws 4 >> Ok (patterns.Refused n)
 
 -- `aborted N`, 0 or 1
-abbrev pub aborted_entry : List Word → Result Entry Wrong
-aborted_entry ws = number_at ws 3 0 1 >>= λ n. ends_at ws 4 >> Ok (entries.Aborted (n == 1))
+abbrev pub aborted_pattern : List Word → Result Pattern Wrong
+aborted_pattern ws = number_at ws 3 0 1 >>= λ n. ends_at ws 4 >> Ok (patterns.Aborted (n == 1))
 
 -- `empty`
-abbrev pub empty_entry : List Word → Result Entry Wrong
-empty_entry ws = ends_at ws 3 >> Ok entries.NoMessage
+abbrev pub empty_pattern : List Word → Result Pattern Wrong
+empty_pattern ws = ends_at ws 3 >> Ok patterns.NoMessage
 
 -- `took M op N arg N`
-abbrev pub took_entry : Names → List Word → Result Entry Wrong
-took_entry names ws = message_id_at names ws 3 >>= λ m. call_at ws 4 >>= λ call. ends_at ws (call_end ws 4) >> Ok (entries.Request m call)
+abbrev pub took_pattern : Names → List Word → Result Pattern Wrong
+took_pattern names ws = message_id_at names ws 3 >>= λ m. said_call_at ws 4 >>= λ call. ends_at ws (call_end ws 4) >> Ok (patterns.Request m call)
 
 -- `lost M op N arg N`
-abbrev pub lost_entry : Names → List Word → Result Entry Wrong
-lost_entry names ws = message_id_at names ws 3 >>= λ m. call_at ws 4 >>= λ call. ends_at ws (call_end ws 4) >> Ok (entries.Dropped m call)
+abbrev pub lost_pattern : Names → List Word → Result Pattern Wrong
+lost_pattern names ws = message_id_at names ws 3 >>= λ m. said_call_at ws 4 >>= λ call. ends_at ws (call_end ws 4) >> Ok (patterns.Dropped m call)
 
 -- `answered M ERROR RESULT`
-abbrev pub answered_entry : Names → List Word → Result Entry Wrong
-answered_entry names ws = message_id_at names ws 3 >>= λ m. last_number ws 4 MOST_CODE >>= λ e. last_number ws 5 18446744073709551615 >>= λ r. ends_at ws 6 >> Ok (entries.Reply m e r)
+abbrev pub answered_pattern : Names → List Word → Result Pattern Wrong
+answered_pattern names ws = message_id_at names ws 3 >>= λ m. last_said ws 4 MOST_CODE >>= λ e. last_said ws 5 18446744073709551615 >>= λ r. ends_at ws 6 >> Ok (patterns.Reply m e r)
 
 -- `THREAD ENTRY`
-abbrev pub logged_claim : Names → List Word → Result Entry Wrong → Result Claim Wrong
-logged_claim names ws entry = subject names ws >>= λ id. entry >>= λ e. Ok (claims.Logged id e)
+abbrev pub logged_fact : Names → List Word → Result Pattern Wrong → Result Fact Wrong
+logged_fact names ws pattern = subject names ws >>= λ id. pattern >>= λ p. Ok (facts.Logged id p)
+
+-- `THREAD refused N`, or `nobody refused N`
+unfoldable pub refusal_fact : Names → List Word → Result Fact Wrong
+refusal_fact names ws = if is_at ws 1 (codes "nobody") then (refused_pattern ws >>= λ p. Ok (facts.Unlogged p)) else logged_fact names ws (refused_pattern ws)
 
 -- `THREAD is STATE`
-abbrev pub state_claim : Names → List Word → Result Claim Wrong
-state_claim names ws = subject names ws >>= λ id. claimed_state_at ws >>= λ s. ends_at ws 4 >> Ok (claims.InState id s)
+abbrev pub state_fact : Names → List Word → Result Fact Wrong
+state_fact names ws = subject names ws >>= λ id. claimed_state_at ws >>= λ s. ends_at ws 4 >> Ok (facts.InState id s)
 
 -- `MESSAGE at PLACE`
-abbrev pub lies_claim : Names → List Word → Result Claim Wrong
-lies_claim names ws = message_id_at names ws 1 >>= λ m. state_at ws >>= λ s. ends_at ws 4 >> Ok (claims.Lies m s)
+abbrev pub lies_fact : Names → List Word → Result Fact Wrong
+lies_fact names ws = message_id_at names ws 1 >>= λ m. state_at ws >>= λ s. ends_at ws 4 >> Ok (facts.Lies m s)
 
 -- what is said of messages, states and sums, or of a record that was read
-abbrev pub other_claim : Names → List Word → Result Claim Wrong
-other_claim names ws =
-    if is_at ws 2 (codes "found") then logged_claim names ws (found_entry ws) else (
-    if is_at ws 2 (codes "is") then state_claim names ws else (
-    if is_at ws 2 (codes "at") then lies_claim names ws else compared_claim names ws))
+abbrev pub other_fact : Names → List Word → Result Fact Wrong
+other_fact names ws =
+    if is_at ws 2 (codes "found") then logged_fact names ws (found_pattern ws) else (
+    if is_at ws 2 (codes "is") then state_fact names ws else (
+    if is_at ws 2 (codes "at") then lies_fact names ws else compared_fact names ws))
 
 -- what is said of a thread's log, or else
-abbrev pub about : Names → List Word → Result Claim Wrong
+abbrev pub about : Names → List Word → Result Fact Wrong
 about names ws =
-    if is_at ws 2 (codes "saw") then logged_claim names ws (saw_entry ws) else (
-    if is_at ws 2 (codes "refused") then logged_claim names ws (refused_entry ws) else (
-    if is_at ws 2 (codes "aborted") then logged_claim names ws (aborted_entry ws) else (
-    if is_at ws 2 (codes "empty") then logged_claim names ws (empty_entry ws) else (
-    if is_at ws 2 (codes "took") then logged_claim names ws (took_entry names ws) else (
-    if is_at ws 2 (codes "lost") then logged_claim names ws (lost_entry names ws) else (
-    if is_at ws 2 (codes "answered") then logged_claim names ws (answered_entry names ws) else other_claim names ws))))))
+    if is_at ws 2 (codes "saw") then logged_fact names ws (saw_pattern ws) else (
+    if is_at ws 2 (codes "refused") then refusal_fact names ws else (
+    if is_at ws 2 (codes "aborted") then logged_fact names ws (aborted_pattern ws) else (
+    if is_at ws 2 (codes "empty") then logged_fact names ws (empty_pattern ws) else (
+    if is_at ws 2 (codes "took") then logged_fact names ws (took_pattern names ws) else (
+    if is_at ws 2 (codes "lost") then logged_fact names ws (lost_pattern names ws) else (
+    if is_at ws 2 (codes "answered") then logged_fact names ws (answered_pattern names ws) else other_fact names ws))))))
 
 -- `fault N`
-abbrev pub faulted_claim : List Word → Result Claim Wrong
-faulted_claim ws = number_at ws 2 0 255 >>= λ n. ends_at ws 3 >> Ok (claims.Faulted n)
+abbrev pub faulted_fact : List Word → Result Fact Wrong
+faulted_fact ws = number_at ws 2 0 255 >>= λ n. ends_at ws 3 >> Ok (facts.Faulted n)
 
 -- a word alone
-abbrev pub alone_claim : List Word → Claim → Result Claim Wrong
-alone_claim ws claim = ends_at ws 2 >> Ok claim
+abbrev pub alone_fact : List Word → Fact → Result Fact Wrong
+alone_fact ws fact = ends_at ws 2 >> Ok fact
 
--- what is said from word 1 on
-abbrev pub claim_of : Names → List Word → Result Claim Wrong
-claim_of names ws =
-    if is_at ws 1 (codes "ended") then alone_claim ws claims.Ended else (
-    if is_at ws 1 (codes "stuck") then alone_claim ws claims.Stuck else (
-    if is_at ws 1 (codes "fault") then faulted_claim ws else about names ws))
+-- the fact that is said from word 1 on
+abbrev pub fact_of : Names → List Word → Result Fact Wrong
+fact_of names ws =
+    if is_at ws 1 (codes "ended") then alone_fact ws facts.Ended else (
+    if is_at ws 1 (codes "stuck") then alone_fact ws facts.Stuck else (
+    if is_at ws 1 (codes "fault") then faulted_fact ws else about names ws))

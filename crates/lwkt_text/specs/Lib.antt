@@ -7,7 +7,11 @@ pub mod Phrasing
 pub mod Operating
 pub mod Blocks
 pub mod Parting
+pub mod Statements
+pub mod StatementCode
+pub mod ClaimTrees
 pub mod Claiming
+pub mod Combining
 pub mod Listing
 pub mod Expanding
 pub mod Saying

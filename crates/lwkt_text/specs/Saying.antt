@@ -16,7 +16,7 @@ use Rattle.lwkt_text.specs.declared.words.Word.{Word}
 use Rattle.lwkt_text.specs.declared.wrongs.Wanted.TheVariants as wanted
 use Rattle.lwkt_text.specs.declared.wrongs.What.TheVariants as whats
 use Rattle.lwkt_text.specs.declared.wrongs.Wrong.{Wrong}
-use Rattle.lwkt_text.specs.Claiming.{claim_of}
+use Rattle.lwkt_text.specs.Combining.{claim_at}
 use Rattle.lwkt_text.specs.Expanding.{constant_at}
 use Rattle.lwkt_text.specs.Listing.{new_name}
 use Rattle.lwkt_text.specs.Looking.{is_at, place_of_word, demand_at, ends_at, number_at}
@@ -29,9 +29,17 @@ use Rattle.lwkt_text.specs.Phrasing.{cond_at}
 abbrev pub setting : List Word → ℕ → Result ℕ Wrong
 setting ws high = number_at ws 1 1 high >>= λ n. ends_at ws 2 >> Ok n
 
--- `always CLAIM`, or another word before it
-abbrev pub expected : Names → List Word → When → Result Said Wrong
-expected names ws when = claim_of names ws >>= λ claim. Ok (saids.Expect (record { when = when; claim = claim; at = place_of_word ws 0 }))
+-- `always CLAIM`, or other words before it, of which there are so many
+abbrev pub expected : Names → List Word → When → ℕ → Result Said Wrong
+expected names ws when count = claim_at names ws count >>= λ claim. Ok (saids.Expect (record { when = when; claim = claim; at = place_of_word ws 0 }))
+
+-- `~exists CLAIM`
+abbrev pub denied : Names → List Word → Result Said Wrong
+denied names ws = demand_at ws 1 (whats.Word wanted.Exists) (is_at ws 1 (codes "exists")) >> expected names ws whens.Never 2
+
+-- `in rounds CLAIM`
+abbrev pub expected_in_rounds : Names → List Word → Result Said Wrong
+expected_in_rounds names ws = demand_at ws 1 (whats.Word wanted.Rounds) (is_at ws 1 (codes "rounds")) >> expected names ws whens.InRounds 2
 
 -- `var NAME = EXPR`, of numbers: a name that no variable of the thread has, and no token and no message
 unfoldable pub var_of : Names → List (List ℕ) → List Word → Result ℕ Wrong
@@ -81,12 +89,20 @@ thread_said names vars ws =
     if is_at ws 0 (codes "else") then alone_said ws acts.Else else (
     if is_at ws 0 (codes "end") then alone_said ws acts.End else plainly_said names vars ws)))))
 
+-- an expectation in the words of litmus tests, or of the run in rounds, or a sentence of a thread
+unfoldable pub litmus_said : Names → List (List ℕ) → List Word → Result Said Wrong
+litmus_said names vars ws =
+    if is_at ws 0 (codes "forall") then expected names ws whens.Always 1 else (
+    if is_at ws 0 (codes "exists") then expected names ws whens.Sometimes 1 else (
+    if is_at ws 0 (codes "~") then denied names ws else (
+    if is_at ws 0 (codes "in") then expected_in_rounds names ws else (thread_said names vars ws >>= λ act. Ok (saids.Do act)))))
+
 -- an expectation, or a sentence of a thread
 unfoldable pub claim_said : Names → List (List ℕ) → List Word → Result Said Wrong
 claim_said names vars ws =
-    if is_at ws 0 (codes "always") then expected names ws whens.Always else (
-    if is_at ws 0 (codes "sometimes") then expected names ws whens.Sometimes else (
-    if is_at ws 0 (codes "never") then expected names ws whens.Never else (thread_said names vars ws >>= λ act. Ok (saids.Do act))))
+    if is_at ws 0 (codes "always") then expected names ws whens.Always 1 else (
+    if is_at ws 0 (codes "sometimes") then expected names ws whens.Sometimes 1 else (
+    if is_at ws 0 (codes "never") then expected names ws whens.Never 1 else litmus_said names vars ws))
 
 -- a token, a message, a thread, or else
 unfoldable pub part_said : Names → List (List ℕ) → List Word → Result Said Wrong

@@ -1,13 +1,15 @@
 //! What a claim names and the script doesn't have.
 ghost use Rattle.std.specs.Prelude.{◌≡◌, IfOk};
 ghost use Rattle.std.specs.List.{filter_map};
-ghost use Rattle.lwkt_text.specs.Absence.{cell_count, counts_additions, has_thread, is_there, absent, absent_quantity, absent_term, absent_entry, absent_part, absence};
+ghost use Rattle.lwkt_text.specs.Absence.{cell_count, counts_additions, has_thread, is_there, absent, absent_quantity, absent_term, absent_pattern, absent_part, absent_fact, absence};
+ghost use Rattle.lwkt_text.specs.ClaimTrees.{statement_of};
+ghost use Rattle.lwkt_text.specs.Naming.{either};
 
-use crate::claims::{Claim, Expectation, Quantity};
+use crate::claims::{ClaimTree, Expectation, Fact, Pattern, Quantity};
 use crate::drafts::threads_on;
 use crate::many::Many;
 use crate::wrongs::{Mention, What, Wrong};
-use lwkt_base::{Entry, Law, OutOfMemory, ThreadId, TokId};
+use lwkt_base::{Law, OutOfMemory, ThreadId, TokId};
 use lwkt_script::Script;
 use std::alloc::Global;
 
@@ -87,33 +89,64 @@ fn absent_term(script: &Script, terms: &[Quantity]) -> Option<Mention>
 }
 
 // The message of an entry, if the script doesn't have it.
-fn absent_entry(script: &Script, entry: &Entry) -> Option<Mention>
-    ensures { result ≡ absent_entry script.now entry.now }
+fn absent_pattern(script: &Script, pattern: Pattern) -> Option<Mention>
+    ensures { result ≡ absent_pattern script.now pattern }
 {
-    match entry {
-        Entry::Request(msg, _) => absent(script, Mention::Message(*msg)),
-        Entry::Reply(msg, _, _) => absent(script, Mention::Message(*msg)),
-        Entry::Dropped(msg, _) => absent(script, Mention::Message(*msg)),
+    match pattern {
+        Pattern::Request(msg, _) => absent(script, Mention::Message(msg)),
+        Pattern::Reply(msg, _, _) => absent(script, Mention::Message(msg)),
+        Pattern::Dropped(msg, _) => absent(script, Mention::Message(msg)),
         _ => None,
     }
 }
 
-// The first that a claim names and the script doesn't have.
-fn absent_part(script: &Script, claim: &Claim) -> Option<Mention>
-    ensures { result ≡ absent_part script.now claim.now }
+// The first that a fact names and the script doesn't have.
+fn absent_part(script: &Script, fact: &Fact) -> Option<Mention>
+    ensures { result ≡ absent_part script.now fact.now }
 {
-    match claim {
-        Claim::Ended | Claim::Stuck | Claim::Faulted(_) => None,
-        Claim::Logged(id, entry) => match absent(script, Mention::Thread(*id)) {
+    match fact {
+        Fact::Ended | Fact::Stuck | Fact::Faulted(_) => None,
+        Fact::Logged(id, pattern) => match absent(script, Mention::Thread(*id)) {
             Some(mention) => Some(mention),
-            None => absent_entry(script, entry),
+            None => absent_pattern(script, *pattern),
         },
-        Claim::InState(id, _) => absent(script, Mention::Thread(*id)),
-        Claim::Lies(msg, _) => absent(script, Mention::Message(*msg)),
-        Claim::Compares(sums) => match absent_term(script, sums.left.as_slice()) {
+        Fact::Unlogged(pattern) => absent_pattern(script, *pattern),
+        Fact::InState(id, _) => absent(script, Mention::Thread(*id)),
+        Fact::Lies(msg, _) => absent(script, Mention::Message(*msg)),
+        Fact::Compares(sums) => match absent_term(script, sums.left.as_slice()) {
             Some(mention) => Some(mention),
             None => absent_term(script, sums.right.as_slice()),
         },
+    }
+}
+
+// The first of two, if there is one.
+fn either(one: Option<Mention>, other: Option<Mention>) -> Option<Mention>
+    ensures { result ≡ either one other }
+{
+    match one {
+        Some(mention) => Some(mention),
+        None => other,
+    }
+}
+
+// The first that a claim names and the script doesn't have.
+fn absent_fact(script: &Script, tree: &ClaimTree) -> Option<Mention>
+    ensures { result ≡ absent_fact script.now (statement_of tree.now) }
+{
+    match tree {
+        ClaimTree::Fact(fact) => absent_part(script, fact),
+        ClaimTree::And(a, b) => {
+            let x = absent_fact(script, a);
+            let y = absent_fact(script, b);
+            either(x, y)
+        }
+        ClaimTree::Or(a, b) => {
+            let x = absent_fact(script, a);
+            let y = absent_fact(script, b);
+            either(x, y)
+        }
+        ClaimTree::Not(a) => absent_fact(script, a),
     }
 }
 
@@ -127,7 +160,7 @@ pub fn absences(
 {
     let mut wrongs = Many::new(alloc);
     for expectation in expectations {
-        if let Some(mention) = absent_part(script, &expectation.claim) {
+        if let Some(mention) = absent_fact(script, expectation.claim.tree()) {
             wrongs.push(Wrong {
                 at: expectation.at,
                 what: What::Absent(mention),

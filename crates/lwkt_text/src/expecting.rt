@@ -1,19 +1,19 @@
-ghost use Rattle.std.specs.Prelude.{◌≡◌, ◌≤◌, ◌+◌, length, IfOk, Ok};
+ghost use Rattle.std.specs.Prelude.{◌≡◌, ◌≤◌, ◌+◌, length, IfOk, IfSome, Ok};
 ghost use Rattle.lwkt_text.specs.Outcome.{IsAsRead};
-ghost use Rattle.lwkt_text.specs.Claiming.{tally_term_at, generation_term_at, round_term_at, plain_at, cell_term_at, named_term, term_at, sum_at, named_relation, relation_at, compared_claim, state_named, named_place, claimed_state_at, state_at, subject, saw_entry, found_entry, refused_entry, aborted_entry, empty_entry, took_entry, lost_entry, answered_entry, logged_claim, state_claim, lies_claim, other_claim, about, faulted_claim, alone_claim, claim_of};
+ghost use Rattle.lwkt_text.specs.Claiming.{tally_term_at, generation_term_at, round_term_at, plain_at, cell_term_at, named_term, term_at, sum_at, named_relation, relation_at, compared_fact, state_named, named_place, claimed_state_at, state_at, subject, saw_pattern, found_pattern, refused_pattern, aborted_pattern, empty_pattern, took_pattern, lost_pattern, answered_pattern, last_said, keyed, said_call_at, refusal_fact, logged_fact, state_fact, lies_fact, other_fact, about, faulted_fact, alone_fact, fact_of};
 
-use crate::claims::{Claim, ClaimedState, Comparison, Quantity, Relation};
+use crate::claims::{ClaimedState, Comparison, Fact, Pattern, Quantity, Relation, SaidCall};
 use crate::looks::{
-    bytes_at, decimal_number, demand_at, ends_at, is_at, number_at, text_at, wrong_at,
+    bytes_at, decimal_number, demand_at, ends_at, is_at, number_at, past_key, text_at, wrong_at,
 };
 use crate::many::Many;
 use crate::slips::checked;
-use crate::steps::{call_at, call_end, last_number};
+use crate::steps::call_end;
 use crate::tables::{Names, cell_at, message_id_at, named_thread, token_id_at};
 use crate::words::Word;
 use crate::wrongs::{Slip, Wanted, What, Wrong};
 use lwkt_base::limits::MOST_CODE;
-use lwkt_base::{CpuId, Entry, MsgState, ThreadId};
+use lwkt_base::{CpuId, MsgState, ThreadId};
 use std::alloc::Global;
 
 /// A quantity, and the place of the first word behind it.
@@ -181,16 +181,16 @@ fn relation_at(words: &[Word], i: usize) -> Result<Relation, Wrong>
 }
 
 // `SUM RELATION SUM` from word 1 on.
-#[tactic(auto, unfolding(crate::specs::Claiming::compared_claim))]
-fn compared_claim(alloc: Global, names: &Names, words: &[Word]) -> Result<Claim, Slip>
+#[tactic(auto, unfolding(crate::specs::Claiming::compared_fact))]
+fn compared_fact(alloc: Global, names: &Names, words: &[Word]) -> Result<Fact, Slip>
     requires { length words.now ≤ 1000 }
-    ensures { IsAsRead result (compared_claim names.now words.now) }
+    ensures { IsAsRead result (compared_fact names.now words.now) }
 {
     let left = sum_at(alloc, names, words, 1)?;
     let relation = checked(relation_at(words, left.end))?;
     let right = sum_at(alloc, names, words, left.end + 1)?;
     checked(ends_at(words, right.end))?;
-    Ok(Claim::Compares(Comparison {
+    Ok(Fact::Compares(Comparison {
         left: left.terms,
         relation,
         right: right.terms,
@@ -255,164 +255,232 @@ fn subject(names: &Names, words: &[Word]) -> Result<ThreadId, Wrong>
 }
 
 // `saw N`
-fn saw_entry(words: &[Word]) -> Result<Entry, Wrong>
-    ensures { result ≡ saw_entry words.now }
+fn saw_pattern(words: &[Word]) -> Result<Pattern, Wrong>
+    ensures { result ≡ saw_pattern words.now }
 {
     let n = number_at(words, 3, 0, u64::MAX)?;
     ends_at(words, 4)?;
-    Ok(Entry::Value(n))
+    Ok(Pattern::Value(n))
 }
 
 // `found BYTES`
-fn found_entry(words: &[Word]) -> Result<Entry, Wrong>
-    ensures { result ≡ found_entry words.now }
+fn found_pattern(words: &[Word]) -> Result<Pattern, Wrong>
+    ensures { result ≡ found_pattern words.now }
 {
     let blob = bytes_at(words, 3, 64)?;
     ends_at(words, 4)?;
-    Ok(Entry::Bytes(blob))
+    Ok(Pattern::Bytes(blob))
 }
 
-// `refused N`
-fn refused_entry(words: &[Word]) -> Result<Entry, Wrong>
-    ensures { result ≡ refused_entry words.now }
+// `refused N`, or with any number
+fn refused_pattern(words: &[Word]) -> Result<Pattern, Wrong>
+    ensures { result ≡ refused_pattern words.now }
 {
-    let n = number_at(words, 3, 0, 255)? as u8;
+    let n = last_said(words, 3, 255)?;
     ends_at(words, 4)?;
-    Ok(Entry::Refused(n))
+    Ok(Pattern::Refused(match n {
+        Some(n) => Some(n as u8),
+        None => None,
+    }))
 }
 
 // `aborted N`, 0 or 1
-fn aborted_entry(words: &[Word]) -> Result<Entry, Wrong>
-    ensures { result ≡ aborted_entry words.now }
+fn aborted_pattern(words: &[Word]) -> Result<Pattern, Wrong>
+    ensures { result ≡ aborted_pattern words.now }
 {
     let n = number_at(words, 3, 0, 1)?;
     ends_at(words, 4)?;
-    Ok(Entry::Aborted(n == 1))
+    Ok(Pattern::Aborted(n == 1))
 }
 
 // `empty`
-fn empty_entry(words: &[Word]) -> Result<Entry, Wrong>
-    ensures { result ≡ empty_entry words.now }
+fn empty_pattern(words: &[Word]) -> Result<Pattern, Wrong>
+    ensures { result ≡ empty_pattern words.now }
 {
     ends_at(words, 3)?;
-    Ok(Entry::NoMessage)
+    Ok(Pattern::NoMessage)
+}
+
+// A number that may stand at the end, at word i.
+fn last_said(words: &[Word], i: usize, high: u64) -> Result<Option<u64>, Wrong>
+    ensures exact { result ≡ last_said words.now i high }
+    ensures most { IfOk result (λ said. IfSome said (λ n. n ≤ high)) }
+{
+    if text_at(words, i) == "" {
+        return Ok(None);
+    }
+    Ok(Some(number_at(words, i, 0, high)?))
+}
+
+// The value of the key that word i may be.
+fn keyed(words: &[Word], i: usize, key: &str, high: u64) -> Result<Option<u64>, Wrong>
+    requires { i ≤ 100000 }
+    ensures exact { result ≡ keyed words.now i key.now high }
+    ensures most { IfOk result (λ said. IfSome said (λ n. n ≤ high)) }
+{
+    if is_at(words, i, key) {
+        Ok(Some(number_at(words, i + 1, 0, high)?))
+    } else {
+        Ok(None)
+    }
+}
+
+// A number of 32 bits, if it is said.
+fn short_of(said: Option<u64>) -> Option<u32>
+    requires { IfSome said (λ n. n ≤ MOST_CODE) }
+    ensures { result ≡ said }
+{
+    match said {
+        Some(n) => Some(n as u32),
+        None => None,
+    }
+}
+
+// `op N arg N` from word i on, each of them any where it is left out.
+#[tactic(auto, unfolding(crate::specs::Claiming::said_call_at))]
+fn said_call_at(words: &[Word], i: usize) -> Result<SaidCall, Wrong>
+    requires { i ≤ 10000 }
+    ensures { result ≡ said_call_at words.now i }
+{
+    let op = keyed(words, i, "op", MOST_CODE)?;
+    let arg = keyed(words, past_key(words, i, "op"), "arg", u64::MAX)?;
+    Ok(SaidCall {
+        op: short_of(op),
+        arg,
+    })
 }
 
 // `took M op N arg N`
-fn took_entry(names: &Names, words: &[Word]) -> Result<Entry, Wrong>
-    ensures { result ≡ took_entry names.now words.now }
+fn took_pattern(names: &Names, words: &[Word]) -> Result<Pattern, Wrong>
+    ensures { result ≡ took_pattern names.now words.now }
 {
     let msg = message_id_at(names, words, 3)?;
-    let call = call_at(words, 4)?;
+    let call = said_call_at(words, 4)?;
     ends_at(words, call_end(words, 4))?;
-    Ok(Entry::Request(msg, call))
+    Ok(Pattern::Request(msg, call))
 }
 
 // `lost M op N arg N`
-fn lost_entry(names: &Names, words: &[Word]) -> Result<Entry, Wrong>
-    ensures { result ≡ lost_entry names.now words.now }
+fn lost_pattern(names: &Names, words: &[Word]) -> Result<Pattern, Wrong>
+    ensures { result ≡ lost_pattern names.now words.now }
 {
     let msg = message_id_at(names, words, 3)?;
-    let call = call_at(words, 4)?;
+    let call = said_call_at(words, 4)?;
     ends_at(words, call_end(words, 4))?;
-    Ok(Entry::Dropped(msg, call))
+    Ok(Pattern::Dropped(msg, call))
 }
 
 // `answered M ERROR RESULT`
-fn answered_entry(names: &Names, words: &[Word]) -> Result<Entry, Wrong>
-    ensures { result ≡ answered_entry names.now words.now }
+fn answered_pattern(names: &Names, words: &[Word]) -> Result<Pattern, Wrong>
+    ensures { result ≡ answered_pattern names.now words.now }
 {
     let msg = message_id_at(names, words, 3)?;
-    let error = last_number(words, 4, MOST_CODE)? as u32;
-    let outcome = last_number(words, 5, u64::MAX)?;
+    let error = last_said(words, 4, MOST_CODE)?;
+    let outcome = last_said(words, 5, u64::MAX)?;
     ends_at(words, 6)?;
-    Ok(Entry::Reply(msg, error, outcome))
+    Ok(Pattern::Reply(msg, short_of(error), outcome))
+}
+
+// `THREAD refused N`, or `nobody refused N`
+#[tactic(auto, unfolding(crate::specs::Claiming::refusal_fact))]
+fn refusal_fact(names: &Names, words: &[Word]) -> Result<Fact, Wrong>
+    ensures { result ≡ refusal_fact names.now words.now }
+{
+    if is_at(words, 1, "nobody") {
+        Ok(Fact::Unlogged(refused_pattern(words)?))
+    } else {
+        logged_fact(names, words, refused_pattern(words))
+    }
 }
 
 // `THREAD ENTRY`
-fn logged_claim(names: &Names, words: &[Word], entry: Result<Entry, Wrong>) -> Result<Claim, Wrong>
-    ensures { result ≡ logged_claim names.now words.now entry }
+fn logged_fact(
+    names: &Names,
+    words: &[Word],
+    pattern: Result<Pattern, Wrong>,
+) -> Result<Fact, Wrong>
+    ensures { result ≡ logged_fact names.now words.now pattern }
 {
     let id = subject(names, words)?;
-    Ok(Claim::Logged(id, entry?))
+    Ok(Fact::Logged(id, pattern?))
 }
 
 // `THREAD is STATE`
-fn state_claim(names: &Names, words: &[Word]) -> Result<Claim, Wrong>
-    ensures { result ≡ state_claim names.now words.now }
+fn state_fact(names: &Names, words: &[Word]) -> Result<Fact, Wrong>
+    ensures { result ≡ state_fact names.now words.now }
 {
     let id = subject(names, words)?;
     let claimed = claimed_state_at(words)?;
     ends_at(words, 4)?;
-    Ok(Claim::InState(id, claimed))
+    Ok(Fact::InState(id, claimed))
 }
 
 // `MESSAGE at PLACE`
-fn lies_claim(names: &Names, words: &[Word]) -> Result<Claim, Wrong>
-    ensures { result ≡ lies_claim names.now words.now }
+fn lies_fact(names: &Names, words: &[Word]) -> Result<Fact, Wrong>
+    ensures { result ≡ lies_fact names.now words.now }
 {
     let msg = message_id_at(names, words, 1)?;
     let state = state_at(words)?;
     ends_at(words, 4)?;
-    Ok(Claim::Lies(msg, state))
+    Ok(Fact::Lies(msg, state))
 }
 
 // What is said of messages, states and sums, or of a record that was read.
-fn other_claim(alloc: Global, names: &Names, words: &[Word]) -> Result<Claim, Slip>
+fn other_fact(alloc: Global, names: &Names, words: &[Word]) -> Result<Fact, Slip>
     requires { length words.now ≤ 1000 }
-    ensures { IsAsRead result (other_claim names.now words.now) }
+    ensures { IsAsRead result (other_fact names.now words.now) }
 {
     match text_at(words, 2) {
-        "found" => checked(logged_claim(names, words, found_entry(words))),
-        "is" => checked(state_claim(names, words)),
-        "at" => checked(lies_claim(names, words)),
-        _ => compared_claim(alloc, names, words),
+        "found" => checked(logged_fact(names, words, found_pattern(words))),
+        "is" => checked(state_fact(names, words)),
+        "at" => checked(lies_fact(names, words)),
+        _ => compared_fact(alloc, names, words),
     }
 }
 
 // What is said of a thread's log, or else.
-fn about(alloc: Global, names: &Names, words: &[Word]) -> Result<Claim, Slip>
+fn about(alloc: Global, names: &Names, words: &[Word]) -> Result<Fact, Slip>
     requires { length words.now ≤ 1000 }
     ensures { IsAsRead result (about names.now words.now) }
 {
     match text_at(words, 2) {
-        "saw" => checked(logged_claim(names, words, saw_entry(words))),
-        "refused" => checked(logged_claim(names, words, refused_entry(words))),
-        "aborted" => checked(logged_claim(names, words, aborted_entry(words))),
-        "empty" => checked(logged_claim(names, words, empty_entry(words))),
-        "took" => checked(logged_claim(names, words, took_entry(names, words))),
-        "lost" => checked(logged_claim(names, words, lost_entry(names, words))),
-        "answered" => checked(logged_claim(names, words, answered_entry(names, words))),
-        _ => other_claim(alloc, names, words),
+        "saw" => checked(logged_fact(names, words, saw_pattern(words))),
+        "refused" => checked(refusal_fact(names, words)),
+        "aborted" => checked(logged_fact(names, words, aborted_pattern(words))),
+        "empty" => checked(logged_fact(names, words, empty_pattern(words))),
+        "took" => checked(logged_fact(names, words, took_pattern(names, words))),
+        "lost" => checked(logged_fact(names, words, lost_pattern(names, words))),
+        "answered" => checked(logged_fact(names, words, answered_pattern(names, words))),
+        _ => other_fact(alloc, names, words),
     }
 }
 
 // Some thread was ended by this fault.
-fn faulted_claim(words: &[Word]) -> Result<Claim, Wrong>
-    ensures { result ≡ faulted_claim words.now }
+fn faulted_fact(words: &[Word]) -> Result<Fact, Wrong>
+    ensures { result ≡ faulted_fact words.now }
 {
     let n = number_at(words, 2, 0, 255)? as u8;
     ends_at(words, 3)?;
-    Ok(Claim::Faulted(n))
+    Ok(Fact::Faulted(n))
 }
 
 // One word alone says it all.
-fn alone_claim(words: &[Word], claim: Claim) -> Result<Claim, Wrong>
-    ensures { result ≡ alone_claim words.now claim }
+fn alone_fact(words: &[Word], fact: Fact) -> Result<Fact, Wrong>
+    ensures { result ≡ alone_fact words.now fact }
 {
     ends_at(words, 2)?;
-    Ok(claim)
+    Ok(fact)
 }
 
-/// What is said from word 1 on.
-pub fn claim_of(alloc: Global, names: &Names, words: &[Word]) -> Result<Claim, Slip>
+/// The fact that is said from word 1 on.
+pub fn fact_of(alloc: Global, names: &Names, words: &[Word]) -> Result<Fact, Slip>
     requires { length words.now ≤ 1000 }
-    ensures { IsAsRead result (claim_of names.now words.now) }
+    ensures { IsAsRead result (fact_of names.now words.now) }
 {
     match text_at(words, 1) {
-        "ended" => checked(alone_claim(words, Claim::Ended)),
-        "stuck" => checked(alone_claim(words, Claim::Stuck)),
-        "fault" => checked(faulted_claim(words)),
+        "ended" => checked(alone_fact(words, Fact::Ended)),
+        "stuck" => checked(alone_fact(words, Fact::Stuck)),
+        "fault" => checked(faulted_fact(words)),
         _ => about(alloc, names, words),
     }
 }

@@ -2,12 +2,14 @@
 //!
 //! Words: a *text* names its processors, tokens, messages and threads; a *sentence* is some words, each with its place;
 //! `looks` has what word i of one says, and where that would stand if it is missing; an *expectation* says of outcomes that
-//! a *claim* holds always, sometimes or never; a *wrong* is one thing that is wrong with a text, with its place.
+//! a *claim* holds always, sometimes, never or in rounds; a claim is *facts* with `and`, `or` and `not`; a *wrong* is one thing that is
+//! wrong with a text, with its place.
 #![tactic(auto)]
 
 mod absences;
 mod blocks;
 pub mod claims;
+mod combining;
 mod declarations;
 mod drafts;
 mod expansions;

@@ -1,12 +1,12 @@
 ghost use Rattle.std.specs.Prelude.{◌≡◌, ◌<◌, ◌≤◌, length, IfOk};
-ghost use Rattle.lwkt_text.specs.Saying.{setting, expected, var_of, test_said, assertion_said, times_said, alone_said, leaf_said, plainly_said, thread_said, claim_said, part_said, said_by_sentence};
+ghost use Rattle.lwkt_text.specs.Saying.{setting, expected, denied, expected_in_rounds, var_of, test_said, assertion_said, times_said, alone_said, leaf_said, plainly_said, thread_said, litmus_said, claim_said, part_said, said_by_sentence};
 ghost use Rattle.lwkt_text.specs.Outcome.{IsAsRead};
 ghost use Rattle.lwkt_text.specs.Within.{MayBeSaid};
 
 use crate::claims::{Expectation, When};
+use crate::combining::claim_at;
 use crate::declarations::{Head, head_of, message_of, token_of};
 use crate::expansions::constant_at;
-use crate::expecting::claim_of;
 use crate::listings::new_name;
 use crate::looks::{demand_at, ends_at, is_at, number_at, place_of_word, text_at};
 use crate::names::Name;
@@ -63,18 +63,48 @@ fn setting(words: &[Word], high: u64) -> Result<u64, Wrong>
     Ok(n)
 }
 
-// `always CLAIM`, or another word before it.
-fn expected(alloc: Global, names: &Names, words: &[Word], when: When) -> Result<Said, Slip>
-    requires { length words.now ≤ 1000 }
-    ensures exact { IsAsRead result (expected names.now words.now when) }
+// `always CLAIM`, or other words before it, of which there are so many.
+fn expected(
+    alloc: Global,
+    names: &Names,
+    words: &[Word],
+    when: When,
+    count: usize,
+) -> Result<Said, Slip>
+    requires few { length words.now ≤ 1000 }
+    requires some { 1 ≤ count }
+    requires most { count ≤ 2 }
+    ensures exact { IsAsRead result (expected names.now words.now when count) }
     ensures limits { IfOk result (MayBeSaid names.now.cpus) }
 {
-    let claim = claim_of(alloc, names, words)?;
+    let claim = claim_at(alloc, names, words, count)?;
     Ok(Said::Expect(Expectation {
         when,
         claim,
         at: place_of_word(words, 0),
     }))
+}
+
+// `~exists CLAIM`
+fn denied(alloc: Global, names: &Names, words: &[Word]) -> Result<Said, Slip>
+    requires { length words.now ≤ 1000 }
+    ensures exact { IsAsRead result (denied names.now words.now) }
+    ensures limits { IfOk result (MayBeSaid names.now.cpus) }
+{
+    let is_exists = is_at(words, 1, "exists");
+    checked(demand_at(words, 1, What::Word(Wanted::Exists), is_exists))?;
+    expected(alloc, names, words, When::Never, 2)
+}
+
+// `in rounds CLAIM`
+fn expected_in_rounds(alloc: Global, names: &Names, words: &[Word]) -> Result<Said, Slip>
+    requires { length words.now ≤ 1000 }
+    ensures exact { IsAsRead result (expected_in_rounds names.now words.now) }
+    ensures limits { IfOk result (MayBeSaid names.now.cpus) }
+{
+    let is_rounds = is_at(words, 1, "rounds");
+    checked(demand_at(words, 1, What::Word(Wanted::Rounds), is_rounds))?;
+    expected(alloc, names, words, When::InRounds, 2)
 }
 
 // `var NAME = EXPR`, of numbers: a name that no variable of the thread has, and no token and no message.
@@ -168,6 +198,22 @@ fn thread_said(alloc: Global, names: &Names, vars: &[Name], words: &[Word]) -> R
     }
 }
 
+// An expectation in the words of litmus tests, or of the run in rounds, or a sentence of a thread.
+#[tactic(auto, unfolding(crate::specs::Saying::litmus_said))]
+fn litmus_said(alloc: Global, names: &Names, vars: &[Name], words: &[Word]) -> Result<Said, Slip>
+    requires { length words.now ≤ 1000 }
+    ensures exact { IsAsRead result (litmus_said names.now vars.now words.now) }
+    ensures limits { IfOk result (MayBeSaid names.now.cpus) }
+{
+    match text_at(words, 0) {
+        "forall" => expected(alloc, names, words, When::Always, 1),
+        "exists" => expected(alloc, names, words, When::Sometimes, 1),
+        "~" => denied(alloc, names, words),
+        "in" => expected_in_rounds(alloc, names, words),
+        _ => Ok(Said::Do(thread_said(alloc, names, vars, words)?)),
+    }
+}
+
 // An expectation, or a sentence of a thread.
 #[tactic(auto, unfolding(crate::specs::Saying::claim_said))]
 fn claim_said(alloc: Global, names: &Names, vars: &[Name], words: &[Word]) -> Result<Said, Slip>
@@ -176,10 +222,10 @@ fn claim_said(alloc: Global, names: &Names, vars: &[Name], words: &[Word]) -> Re
     ensures limits { IfOk result (MayBeSaid names.now.cpus) }
 {
     match text_at(words, 0) {
-        "always" => expected(alloc, names, words, When::Always),
-        "sometimes" => expected(alloc, names, words, When::Sometimes),
-        "never" => expected(alloc, names, words, When::Never),
-        _ => Ok(Said::Do(thread_said(alloc, names, vars, words)?)),
+        "always" => expected(alloc, names, words, When::Always, 1),
+        "sometimes" => expected(alloc, names, words, When::Sometimes, 1),
+        "never" => expected(alloc, names, words, When::Never, 1),
+        _ => litmus_said(alloc, names, vars, words),
     }
 }
 

@@ -51,6 +51,8 @@ pub enum What {
     State,
     /// A number, a cell, or `gen`, `round` or `tally` with what it is of, is wanted.
     Quantity,
+    /// A claim is wanted.
+    Claim,
     /// A relation is wanted: `=`, `!=`, `<`, `<=`, `>` or `>=`.
     Relation,
     /// A sentence has at most 1000 words.
@@ -110,6 +112,10 @@ pub enum Wanted {
     Close,
     /// `]`
     Square,
+    /// `exists`
+    Exists,
+    /// `rounds`
+    Rounds,
 }
 
 /// What is wrong with a text, and where.

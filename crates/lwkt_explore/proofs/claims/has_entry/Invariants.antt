@@ -3,4 +3,4 @@ use Rattle.lwkt_explore.specs.Claims.{has_entry}
 use Rattle.lwkt_explore.proofs.claims.has_entry.Given as goal
 
 abbrev pub invariant-loop-e : goal.invariant-loop-e
-invariant-loop-e l = has_entry l.entry (drop l.e-index l.log) ≡ has_entry l.entry l.log
+invariant-loop-e l = has_entry l.pattern (drop l.e-index l.log) ≡ has_entry l.pattern l.log

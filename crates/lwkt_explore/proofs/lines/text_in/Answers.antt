@@ -1,9 +1,8 @@
 use Rattle.std.proofs.Common.{arith, ◌≡◌, ◌+◌, ◌++◌, [], length, string_bytes}
-use Rattle.std.proofs.lemmas.Grind.{common_steps}
-use Rattle.std.specs.Option.{option_copied, option_map_or}
+use Rattle.std.specs.Option.{option_copied}
 use Rattle.lwkt_report.specs.Report.{numbered_lines}
 use Rattle.lwkt_explore.specs.declared.outcomes.Kind.TheVariants.{Ended, Stuck, Cut}
-use Rattle.lwkt_explore.specs.Texts.{outcome_lines, of_kind, by_kind, lost_line, sum_line, text_in}
+use Rattle.lwkt_explore.specs.Texts.{outcome_lines, of_kind, by_kind, end_lines, sum_line, text_in}
 use Rattle.lwkt_explore.proofs.KindLemmas.{kinds, numbered_kinds, written_all}
 use Rattle.lwkt_explore.proofs.lines.text_in.Goals as goal
 
@@ -47,8 +46,8 @@ returns c =
     let first : string_bytes c.add_kind.new.out ≡ string_bytes c.new-out.result ++ numbered_lines line 1 e = c.in_ok-ended.ensures.text in
     let second : string_bytes c.add_kind-2.new.out ≡ string_bytes c.add_kind.new.out ++ numbered_lines line (c.in_ok-ended.ended + 1) s = c.in_ok-stuck.ensures.text in
     let third : string_bytes c.add_kind-3.new.out ≡ string_bytes c.add_kind-2.new.out ++ numbered_lines line (c.in_ok-stuck.stuck + 1) cut = c.in_ok-count.ensures.text in
-    let fourth : string_bytes c.match-found.out ≡ string_bytes c.add_kind-3.new.out ++ option_map_or lost_line found.lost [] = grind (arith, common_steps) in
-    written_all (string_bytes c.new-out.result) (string_bytes c.add_kind.new.out) (string_bytes c.add_kind-2.new.out) (string_bytes c.add_kind-3.new.out) (string_bytes c.match-found.out) (string_bytes c.add_sum.new.out)
+    let fourth : string_bytes c.add_end.new.out ≡ string_bytes c.add_kind-3.new.out ++ end_lines found = c.in_ok-add_end.ensures in
+    written_all (string_bytes c.new-out.result) (string_bytes c.add_kind.new.out) (string_bytes c.add_kind-2.new.out) (string_bytes c.add_kind-3.new.out) (string_bytes c.add_end.new.out) (string_bytes c.add_sum.new.out)
     (numbered_lines line 1 e) (numbered_lines line (length e + 1) s) (numbered_lines line (length e + length s + 1) cut) (numbered_lines line 1 (by_kind found.outcomes))
-    (option_map_or lost_line found.lost []) (sum_line found)
+    (end_lines found) (sum_line found)
     c.new-out.ensures.bytes first (rw ended at second) (rw stuck at third) fourth c.in_ok-add_sum.ensures (numbered_kinds line e s cut)

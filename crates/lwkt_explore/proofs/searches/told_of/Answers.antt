@@ -57,3 +57,12 @@ returns-in-Err-tell_cut g c = record {
   told = tt;
   refused = c.in-Err-tell_cut.ensures.refused;
 }
+
+pub tell_cut-requires : goal.tell_cut-requires
+tell_cut-requires g c = record {
+  is_script = c.requires.script;
+  cpus = c.requires.cpus;
+  searched = c.requires.searched;
+  are_outcomes = c.tell.ensures.found;
+  short = c.tell.ensures.short;
+}

@@ -2,4 +2,4 @@ use Rattle.lwkt_request.proofs.commands.show_command.Goals as goal
 
 pub returns : goal.returns
 returns c =
-    c.with_file.ensures _ (c.with_flag-command-5.ensures _ (c.with_flag-command-4.ensures _ (c.with_flag-command-3.ensures _ (c.with_flag-command-2.ensures _ (c.with_value-command-3.ensures _ (c.with_value-command-2.ensures _ (c.with_value-command.ensures _ (c.with_flag-command.ensures _ (c.described.ensures _ (record { is = c.new.ensures.app; local = c.new.ensures.local; whole = c.new.ensures.whole }))))))))))
+    c.with_file.ensures _ (c.with_flag-command-2.ensures _ (c.with_views-command.ensures _ (c.with_turns-command.ensures _ (c.with_flag-command.ensures _ (c.described.ensures _ (record { is = c.new.ensures.app; local = c.new.ensures.local; whole = c.new.ensures.whole }))))))

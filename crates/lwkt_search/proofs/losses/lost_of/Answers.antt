@@ -1,9 +1,9 @@
-use Rattle.std.proofs.Common.{◌≡◌, ℕ, ◌+◌, ◌<◌, ◌≤◌, List, length, arith, ◌∙◌, ap, subst, sym, All, Vec}
+use Rattle.std.proofs.Common.{◌≡◌, ◌+◌, ◌<◌, ◌≤◌, List, length, arith, ◌∙◌, ap, subst, sym, All, Vec}
 use Rattle.std.proofs.lemmas.List.Elements.{All-push}
 use Rattle.std.specs.declared.alloc.Global.{Global}
 use Rattle.lwkt_search.specs.declared.searches.Outcome.{Outcome}
 use Rattle.lwkt_search.specs.Runs.{all_told, told_of, IsOrder}
-use Rattle.lwkt_search.specs.Graphs.{nodes_of, AllTried}
+use Rattle.lwkt_search.specs.Graphs.{nodes_of}
 use Rattle.lwkt_search.specs.Losses.{IsLostList}
 use Rattle.lwkt_search.proofs.LossLemmas.{lost_more, lost_less, lost_at, all_lost}
 use Rattle.lwkt_search.proofs.NodeLemmas.{nodes_long}
@@ -15,9 +15,10 @@ use Rattle.lwkt_search.proofs.losses.lost_of.Goals.{then-not-reaches-at+in_ok-or
 pub bounds-reaches-at : goal.bounds-reaches-at
 bounds-reaches-at g c =
     let kept = g.M.Machine.kept c.args.growth.now.store in
-    let links = c.args.growth.now.links.items in
-    let long : length links ≡ length kept = c.requires.long in
-    let count : length (nodes_of kept links) ≡ length kept = nodes_long kept links long in
+    let links = c.args.growth.now.links in
+    let few : length links ≤ length kept = c.requires.room in
+    let count : length (nodes_of kept links) ≡ length links = nodes_long kept links few in
+    let is_whole = c.args.growth.now.is_whole in
     omega (arith, c.requires.same, c.loop-at.invariant.end)
 
 pub loop-at-preserved : goal.loop-at-preserved
@@ -27,21 +28,22 @@ loop-at-preserved g c =
     let start = g.M.Machine.start_of c.args.task.now.machine in
     let cpus = c.args.task.now.cpus in
     let kept = g.M.Machine.kept c.args.growth.now.store in
-    let links = c.args.growth.now.links.items in
-    let long : length links ≡ length kept = c.requires.long in
-    let count : length (nodes_of kept links) ≡ length kept = nodes_long kept links long in
+    let links = c.args.growth.now.links in
+    let few : length links ≤ length kept = c.requires.room in
+    let count : length (nodes_of kept links) ≡ length links = nodes_long kept links few in
+    let is_whole = c.args.growth.now.is_whole in
     let nodes = nodes_of kept links in
     let at = c.loop-at.at in
     let there : at < length nodes = omega (arith, c.loop-at.invariant.end) in
-    let lost : IsLostList turn ended start cpus nodes c.args.growth.now.next.items (all_told start kept c.if-not-reaches-at.lost.items) (at + 1) =
+    let lost : IsLostList turn ended start cpus nodes is_whole (all_told start kept c.if-not-reaches-at.lost.items) (at + 1) =
     elim c.if-not-reaches-at.branch [
       | then-not-reaches-at+in_ok-order+in_ok-push w ↦
-          let dark = lost_at turn ended start cpus nodes c.args.growth.now.next.items c.args.reaches.now at c.requires.reaching c.requires.settled there w.if-not-reaches-at.true in
+          let dark = lost_at turn ended start cpus nodes is_whole c.args.reaches.now at c.requires.reaching c.requires.settled there w.if-not-reaches-at.true in
           let last : Outcome = record { place = at; order = w.in_ok-order.order } in
           let pushed = ap (λ (v : Vec Outcome Global). v.items) w.lost-is ∙ w.in_ok-push.ensures.items in
-          lost_more turn ended start cpus nodes c.args.growth.now.next.items (all_told start kept c.loop-at.lost.items) (all_told start kept c.if-not-reaches-at.lost.items) at (told_of start kept last) c.requires.finished.grown.search.graph there c.loop-at.invariant.lost w.in_ok-order.ensures dark (told_push start kept c.loop-at.lost.items last c.if-not-reaches-at.lost.items pushed)
+          lost_more turn ended start cpus nodes is_whole (all_told start kept c.loop-at.lost.items) (all_told start kept c.if-not-reaches-at.lost.items) at (told_of start kept last) c.requires.finished.grown.search.graph there c.loop-at.invariant.lost w.in_ok-order.ensures dark (told_push start kept c.loop-at.lost.items last c.if-not-reaches-at.lost.items pushed)
       | else-not-reaches-at w ↦
-          lost_less turn ended start cpus nodes c.args.growth.now.next.items (all_told start kept c.loop-at.lost.items) (all_told start kept c.if-not-reaches-at.lost.items) at c.loop-at.invariant.lost (c.requires.reaching.sound at there w.if-not-reaches-at.false) (ap (λ (v : Vec Outcome Global). all_told start kept v.items) w.lost-is)
+          lost_less turn ended start cpus nodes is_whole (all_told start kept c.loop-at.lost.items) (all_told start kept c.if-not-reaches-at.lost.items) at c.loop-at.invariant.lost (c.requires.reaching.sound at there w.if-not-reaches-at.false) (ap (λ (v : Vec Outcome Global). all_told start kept v.items) w.lost-is)
     ]
     in
     let O : Outcome → Type 0 = λ one. IsOrder cpus one.order.items in
@@ -60,23 +62,22 @@ loop-at-preserved g c =
     record { end = c.loop-at.invariant.end; lost = lost; orders = orders }
 
 pub returns-clause-sound : goal.returns-clause-sound
-returns-clause-sound g c = λ tried.
-    let T : ℕ → Type 0 = λ n. AllTried c.args.task.now.cpus c.args.growth.now.next.items n in
-    c.loop-at.invariant.lost.sound (subst T c.requires.finished.each tried)
+returns-clause-sound g c = c.loop-at.invariant.lost.sound
 
 pub returns-clause-complete : goal.returns-clause-complete
-returns-clause-complete g c = λ tried.
+returns-clause-complete g c = λ whole.
     let turn = g.M.Machine.turn_of c.args.task.now.machine in
     let ended = g.M.Machine.ended_of c.args.task.now.machine in
     let start = g.M.Machine.start_of c.args.task.now.machine in
     let cpus = c.args.task.now.cpus in
     let kept = g.M.Machine.kept c.args.growth.now.store in
-    let links = c.args.growth.now.links.items in
-    let long : length links ≡ length kept = c.requires.long in
-    let count : length (nodes_of kept links) ≡ length kept = nodes_long kept links long in
+    let links = c.args.growth.now.links in
+    let few : length links ≤ length kept = c.requires.room in
+    let count : length (nodes_of kept links) ≡ length links = nodes_long kept links few in
+    let is_whole = c.args.growth.now.is_whole in
     let nodes = nodes_of kept links in
     let end : length nodes ≤ c.loop-at.at = omega (arith, c.loop-at.invariant.end) in
-    all_lost turn ended start cpus nodes c.args.growth.now.next.items (all_told start kept c.loop-at.lost.items) c.loop-at.at (is_full turn start cpus nodes c.args.growth.now.next.items c.args.growth.now.gone_on c.requires.finished.grown c.requires.finished.each tried) c.loop-at.invariant.lost end
+    all_lost turn ended start cpus nodes is_whole (all_told start kept c.loop-at.lost.items) c.loop-at.at (is_full turn ended start cpus nodes c.args.growth.now.onward.items is_whole c.args.growth.now.gone_on c.requires.finished.grown c.requires.finished.each whole) c.loop-at.invariant.lost end
 
 pub returns-clause-once : goal.returns-clause-once
 returns-clause-once g c = c.loop-at.invariant.lost.spread.apart

@@ -6,7 +6,7 @@ use Rattle.lwkt_search.proofs.losses.lost_of.Given as goal
 
 abbrev pub invariant-loop-at : goal.invariant-loop-at
 invariant-loop-at g l = record {
-  end : l.at-end ≡ length l.growth.links.items;
-  lost : IsLostList (g.M.Machine.turn_of l.task.machine) (g.M.Machine.ended_of l.task.machine) (g.M.Machine.start_of l.task.machine) l.task.cpus (nodes_of (g.M.Machine.kept l.growth.store) l.growth.links.items) l.growth.next.items (all_told (g.M.Machine.start_of l.task.machine) (g.M.Machine.kept l.growth.store) l.lost.items) l.at;
+  end : l.at-end ≡ length l.growth.links;
+  lost : IsLostList (g.M.Machine.turn_of l.task.machine) (g.M.Machine.ended_of l.task.machine) (g.M.Machine.start_of l.task.machine) l.task.cpus (nodes_of (g.M.Machine.kept l.growth.store) l.growth.links) l.growth.is_whole (all_told (g.M.Machine.start_of l.task.machine) (g.M.Machine.kept l.growth.store) l.lost.items) l.at;
   orders : All (λ one. IsOrder l.task.cpus one.order.items) l.lost.items;
 }

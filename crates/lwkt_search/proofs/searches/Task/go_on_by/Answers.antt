@@ -1,23 +1,90 @@
-use Rattle.std.proofs.Common.{◌<◌, ◌≤◌, length, arith, ◌∙◌, IsTrue, rules}
+use Rattle.std.proofs.Common.{◌≡◌, ◌<◌, ◌≤◌, length, arith, IsTrue, rules}
+use Rattle.lwkt_search.specs.Graphs.{nodes_of}
+use Rattle.lwkt_search.proofs.NodeLemmas.{nodes_long}
+use Rattle.lwkt_search.proofs.RowLemmas.{grows_none, grows_on}
 use Rattle.lwkt_search.proofs.searches.Task.go_on_by.Goals as goal
+
+pub loop-set-init : goal.loop-set-init
+loop-set-init g c = record {
+  sound = c.requires.sound;
+  long = c.requires.long;
+  within = c.requires.within;
+  there = c.requires.there;
+  grows = grows_none (g.M.Machine.start_of c.args.self.now.machine) c.args.at (nodes_of (g.M.Machine.kept c.args.store.now) c.args.links.now);
+  few = λ h. h;
+}
 
 pub loop-set-preserved : goal.loop-set-preserved
 loop-set-preserved g c =
-    let longer : length c.loop-set.links.items ≤ length c.try_set.new.links.items = c.in_ok-try_set.ensures.longer in
-    let before : length c.args.links.now.items ≤ length c.loop-set.links.items = c.loop-set.invariant.longer in
-    let there : c.args.at < length c.loop-set.links.items = c.loop-set.invariant.there in
+    let start = g.M.Machine.start_of c.args.self.now.machine in
+    let kept = g.M.Machine.kept c.args.store.now in
+    let kept' = g.M.Machine.kept c.loop-set.store in
+    let kept'' = g.M.Machine.kept c.try_set.new.store in
+    let links = c.args.links.now in
+    let links' = c.loop-set.links in
+    let links'' = c.try_set.new.links in
+    let one = nodes_of kept links in
+    let two = nodes_of kept' links' in
+    let three = nodes_of kept'' links'' in
+    let at = c.args.at in
+    let long : length links ≡ length kept = c.requires.long in
+    let few : length links ≤ length kept = omega arith in
+    let count : length one ≡ length links = nodes_long kept links few in
+    let there : at < length links = c.requires.there in
+    let here : at < length one = omega arith in
+    let grows = grows_on start at one two three here c.loop-set.invariant.grows c.in_ok-try_set.ensures.grows in
+    let long'' : length links'' ≡ length kept'' = c.in_ok-try_set.ensures.long in
+    let few'' : length links'' ≤ length kept'' = omega arith in
+    let count'' : length three ≡ length links'' = nodes_long kept'' links'' few'' in
+    let longer : length one ≤ length three = grows.grows.longer in
     let yes : IsTrue c.in_ok-try_set.field-0 = search rules in
     record {
       sound = c.in_ok-try_set.ensures.sound;
       long = c.in_ok-try_set.ensures.long;
       within = c.in_ok-try_set.ensures.within;
       there = omega arith;
-      longer = omega arith;
-      keeps = λ k h d. let here : k < length c.loop-set.links.items = omega arith in c.in_ok-try_set.ensures.keeps k here d ∙ c.loop-set.invariant.keeps k h d;
+      grows = grows;
       few = λ h. c.in_ok-try_set.ensures.few yes (c.loop-set.invariant.few h);
     }
 
-pub returns-then-not-branch-clause-keeps : goal.returns-then-not-branch-clause-keeps
-returns-then-not-branch-clause-keeps g c = λ k h d.
-    let here : k < length c.loop-set.links.items = omega (arith, c.loop-set.invariant.longer) in
-    c.in_ok-try_set.ensures.keeps k here d ∙ c.loop-set.invariant.keeps k h d
+pub returns-then-not-branch-clause-grows : goal.returns-then-not-branch-clause-grows
+returns-then-not-branch-clause-grows g c =
+    let start = g.M.Machine.start_of c.args.self.now.machine in
+    let kept = g.M.Machine.kept c.args.store.now in
+    let kept' = g.M.Machine.kept c.loop-set.store in
+    let kept'' = g.M.Machine.kept c.try_set.new.store in
+    let links = c.args.links.now in
+    let links' = c.loop-set.links in
+    let links'' = c.try_set.new.links in
+    let one = nodes_of kept links in
+    let two = nodes_of kept' links' in
+    let three = nodes_of kept'' links'' in
+    let at = c.args.at in
+    let long : length links ≡ length kept = c.requires.long in
+    let few : length links ≤ length kept = omega arith in
+    let count : length one ≡ length links = nodes_long kept links few in
+    let there : at < length links = c.requires.there in
+    let here : at < length one = omega arith in
+    let grows = grows_on start at one two three here c.loop-set.invariant.grows c.in_ok-try_set.ensures.grows in
+    grows
+
+pub returns-then-far-at-clause-grows : goal.returns-then-far-at-clause-grows
+returns-then-far-at-clause-grows g c =
+    let start = g.M.Machine.start_of c.args.self.now.machine in
+    let kept = g.M.Machine.kept c.args.store.now in
+    let kept' = g.M.Machine.kept c.loop-set.store in
+    let kept'' = g.M.Machine.kept c.try_set.new.store in
+    let links = c.args.links.now in
+    let links' = c.loop-set.links in
+    let links'' = c.try_set.new.links in
+    let one = nodes_of kept links in
+    let two = nodes_of kept' links' in
+    let three = nodes_of kept'' links'' in
+    let at = c.args.at in
+    let long : length links ≡ length kept = c.requires.long in
+    let few : length links ≤ length kept = omega arith in
+    let count : length one ≡ length links = nodes_long kept links few in
+    let there : at < length links = c.requires.there in
+    let here : at < length one = omega arith in
+    let grows = grows_on start at one two three here c.loop-set.invariant.grows c.in_ok-try_set.ensures.grows in
+    grows

@@ -1,6 +1,6 @@
-use Rattle.std.proofs.Common.{◌≡◌, ℕ, ◌+◌, ◌<◌, List, [], ◌∷◌, ◌++◌, length, arith, ap, sym, subst, ◌∙◌, reverse}
+use Rattle.std.proofs.Common.{◌≡◌, ℕ, ◌+◌, ◌<◌, ◌≤◌, List, [], ◌∷◌, ◌++◌, length, arith, ap, sym, subst, ◌∙◌, reverse}
 use Rattle.std.proofs.lemmas.List.{length-append, length-reverse}
-use Rattle.lwkt_search.specs.declared.searches.Link.{Link}
+use Rattle.lwkt_search.specs.Links.{Link}
 use Rattle.lwkt_search.specs.Runs.{run, IsOrder}
 use Rattle.lwkt_search.specs.Graphs.{node_at, nodes_of, IsLink}
 use Rattle.lwkt_search.proofs.NodeLemmas.{node_cpu, node_parent, node_state, nodes_long}
@@ -13,18 +13,18 @@ loop-number-smaller g c =
     let start = g.M.Machine.start_of c.args.self.now.machine in
     let cpus = c.args.self.now.cpus in
     let kept = g.M.Machine.kept c.args.growth.now.store in
-    let links = c.args.growth.now.links.items in
+    let links = c.args.growth.now.links in
     let nodes = nodes_of kept links in
     let number = c.loop-number.number in
-    let x = c.index.result.now in
-    let y = c.index-in-loop-number.result.now in
-    let long : length links ≡ length kept = c.requires.long in
+    let first : Link = record { parent = 0; cpu = 0; depth = 0 } in
+    let by = c.cpu-by.result in
+    let from = c.parent-from.result in
+    let few : length links ≤ length kept = c.requires.long in
     let there : number < length links = c.loop-number.invariant.there in
-    let in_kept : number < length kept = omega arith in
-    let in_nodes : number < length nodes = omega (arith, nodes_long kept links long) in
+    let in_nodes : number < length nodes = omega (arith, nodes_long kept links few) in
     let some : 0 < number = omega arith in
     let link : IsLink turn cpus number (node_at start nodes number) (node_at start nodes ((node_at start nodes number).parent)) = c.requires.graph.links number in_nodes some in
-    let parent : y.parent ≡ (node_at start nodes number).parent = ap (λ (l : Link). l.parent) c.index-in-loop-number.ensures ∙ sym (node_parent start kept links number y long in_kept) in
+    let parent : from ≡ (node_at start nodes number).parent = c.parent-from.ensures first ∙ sym (node_parent start kept links number first few there) in
     let before : (node_at start nodes number).parent < number = link.before in
     omega arith
 
@@ -34,30 +34,30 @@ loop-number-preserved g c =
     let start = g.M.Machine.start_of c.args.self.now.machine in
     let cpus = c.args.self.now.cpus in
     let kept = g.M.Machine.kept c.args.growth.now.store in
-    let links = c.args.growth.now.links.items in
+    let links = c.args.growth.now.links in
     let nodes = nodes_of kept links in
     let number = c.loop-number.number in
-    let x = c.index.result.now in
-    let y = c.index-in-loop-number.result.now in
-    let long : length links ≡ length kept = c.requires.long in
+    let first : Link = record { parent = 0; cpu = 0; depth = 0 } in
+    let by = c.cpu-by.result in
+    let from = c.parent-from.result in
+    let few : length links ≤ length kept = c.requires.long in
     let there : number < length links = c.loop-number.invariant.there in
-    let in_kept : number < length kept = omega arith in
-    let in_nodes : number < length nodes = omega (arith, nodes_long kept links long) in
+    let in_nodes : number < length nodes = omega (arith, nodes_long kept links few) in
     let some : 0 < number = omega arith in
     let link : IsLink turn cpus number (node_at start nodes number) (node_at start nodes ((node_at start nodes number).parent)) = c.requires.graph.links number in_nodes some in
-    let parent : y.parent ≡ (node_at start nodes number).parent = ap (λ (l : Link). l.parent) c.index-in-loop-number.ensures ∙ sym (node_parent start kept links number y long in_kept) in
+    let parent : from ≡ (node_at start nodes number).parent = c.parent-from.ensures first ∙ sym (node_parent start kept links number first few there) in
     let before : (node_at start nodes number).parent < number = link.before in
-    let cpu : x.cpu ≡ (node_at start nodes number).cpu = ap (λ (l : Link). l.cpu) c.index.ensures ∙ sym (node_cpu start kept links number x long in_kept) in
-    let below : x.cpu < cpus = omega (arith, link.cpu) in
-    let state = (node_at start nodes y.parent).state in
-    let P : ℕ → Type 0 = λ p. (node_at start nodes number).state ≡ turn (node_at start nodes p).state x.cpu in
+    let cpu : by ≡ (node_at start nodes number).cpu = c.cpu-by.ensures first ∙ sym (node_cpu start kept links number first few there) in
+    let below : by < cpus = omega (arith, link.cpu) in
+    let state = (node_at start nodes from).state in
+    let P : ℕ → Type 0 = λ p. (node_at start nodes number).state ≡ turn (node_at start nodes p).state by in
     let C : ℕ → Type 0 = λ p. (node_at start nodes number).state ≡ turn (node_at start nodes ((node_at start nodes number).parent)).state p in
-    let leads : (node_at start nodes number).state ≡ turn state x.cpu = subst P (sym parent) (subst C (sym cpu) link.leads) in
+    let leads : (node_at start nodes number).state ≡ turn state by = subst P (sym parent) (subst C (sym cpu) link.leads) in
     let D : ℕ → Type 0 = λ p. (node_at start nodes number).depth ≡ (node_at start nodes p).depth + 1 in
-    let deep : (node_at start nodes number).depth ≡ (node_at start nodes y.parent).depth + 1 = subst D (sym parent) link.depth in
-    let pushed : c.push.new.list.items ≡ c.loop-number.order.items ++ x.cpu ∷ [] = c.in_ok-push.ensures.items in
-    let more : length c.push.new.list.items ≡ length c.loop-number.order.items + 1 = ap length pushed ∙ length-append c.loop-number.order.items (x.cpu ∷ []) in
-    let all : (run turn state (reverse c.push.new.list.items) ≡ (node_at start nodes c.args.at).state) × IsOrder cpus (reverse c.push.new.list.items) = back turn cpus state (node_at start nodes number).state (node_at start nodes c.args.at).state c.loop-number.order.items c.push.new.list.items x.cpu pushed below leads c.loop-number.invariant.leads c.loop-number.invariant.order in
+    let deep : (node_at start nodes number).depth ≡ (node_at start nodes from).depth + 1 = subst D (sym parent) link.depth in
+    let pushed : c.push.new.list.items ≡ c.loop-number.order.items ++ by ∷ [] = c.in_ok-push.ensures.items in
+    let more : length c.push.new.list.items ≡ length c.loop-number.order.items + 1 = ap length pushed ∙ length-append c.loop-number.order.items (by ∷ []) in
+    let all : (run turn state (reverse c.push.new.list.items) ≡ (node_at start nodes c.args.at).state) × IsOrder cpus (reverse c.push.new.list.items) = back turn cpus state (node_at start nodes number).state (node_at start nodes c.args.at).state c.loop-number.order.items c.push.new.list.items by pushed below leads c.loop-number.invariant.leads c.loop-number.invariant.order in
     let was : length c.loop-number.order.items + (node_at start nodes number).depth ≡ (node_at start nodes c.args.at).depth = c.loop-number.invariant.long in
     record {
       there = omega arith;
@@ -72,13 +72,12 @@ returns g c =
     let start = g.M.Machine.start_of c.args.self.now.machine in
     let cpus = c.args.self.now.cpus in
     let kept = g.M.Machine.kept c.args.growth.now.store in
-    let links = c.args.growth.now.links.items in
+    let links = c.args.growth.now.links in
     let nodes = nodes_of kept links in
     let number = c.loop-number.number in
     let none : number ≡ 0 = omega arith in
     let at = c.args.at in
-    let long : length links ≡ length kept = c.requires.long in
-    let in_kept : at < length kept = omega (arith, c.requires.there) in
+    let few : length links ≤ length kept = c.requires.long in
     let order = c.loop-number.order.items in
     let told : c.reverse.new.self.items ≡ reverse order = c.reverse.ensures.items in
     let N : ℕ → Type 0 = λ n. run turn (node_at start nodes n).state (reverse order) ≡ (node_at start nodes at).state in
@@ -90,7 +89,7 @@ returns g c =
     let level : (node_at start nodes 0).depth ≡ 0 = c.requires.graph.level in
     let same : length c.reverse.new.self.items ≡ length order = ap length told ∙ length-reverse order in
     record {
-      state = sym (node_state start kept links at long in_kept);
+      state = sym (node_state start kept links at few c.requires.there);
       order = subst O (sym told) c.loop-number.invariant.order;
       leads = subst R (sym told) (subst S c.requires.graph.first (subst N none c.loop-number.invariant.leads));
       long = omega arith;

@@ -1,0 +1,8 @@
+use Rattle.std.proofs.Common.{◌≡◌, ◌++◌, drop, string_bytes}
+use Rattle.lwkt_report.specs.Report.{numbered_lines}
+use Rattle.lwkt_explore.specs.Jsons.{item_json, number_json}
+use Rattle.lwkt_explore.proofs.json_parts.add_cpus.Given as goal
+
+-- what is written, with the items to come, is all of them
+abbrev pub invariant-loop-n : goal.invariant-loop-n
+invariant-loop-n l = string_bytes l.out ++ numbered_lines (item_json number_json) l.n (drop l.n l.order) ≡ string_bytes l.initial.out ++ numbered_lines (item_json number_json) 0 l.order

@@ -1,0 +1,9 @@
+use Rattle.std.proofs.Common.{◌≡◌, ◌++◌, drop, string_bytes}
+use Rattle.std.specs.Option.{option_copied}
+use Rattle.lwkt_report.specs.Report.{numbered_lines}
+use Rattle.lwkt_explore.specs.Jsons.{item_json, message_json}
+use Rattle.lwkt_explore.proofs.json_values.add_messages.Given as goal
+
+-- what is written, with the items to come, is all of them
+abbrev pub invariant-loop-n : goal.invariant-loop-n
+invariant-loop-n l = string_bytes l.out ++ numbered_lines (item_json (message_json (option_copied l.telling))) l.n (drop l.n l.ends) ≡ string_bytes l.initial.out ++ numbered_lines (item_json (message_json (option_copied l.telling))) 0 l.ends

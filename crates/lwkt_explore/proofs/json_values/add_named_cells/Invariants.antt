@@ -1,0 +1,8 @@
+use Rattle.std.proofs.Common.{◌≡◌, ◌++◌, drop, string_bytes}
+use Rattle.lwkt_report.specs.Report.{numbered_lines}
+use Rattle.lwkt_explore.specs.Jsons.{item_json, cell_json}
+use Rattle.lwkt_explore.proofs.json_values.add_named_cells.Given as goal
+
+-- what is written, with the items to come, is all of them
+abbrev pub invariant-loop-n : goal.invariant-loop-n
+invariant-loop-n l = string_bytes l.out ++ numbered_lines (item_json (cell_json l.names)) l.n (drop l.n l.cells) ≡ string_bytes l.initial.out ++ numbered_lines (item_json (cell_json l.names)) 0 l.cells

@@ -1,0 +1,4 @@
+use Rattle.lwkt_request.proofs.commands.with_turns.Goals as goal
+
+pub returns : goal.returns
+returns c = λ app built. c.with_value.ensures _ (c.with_value-command-2.ensures _ (c.with_value-command.ensures _ built))
