@@ -84,7 +84,7 @@ function compareOrders(script, name) {
 // What docs/EXPLORE.md shows.
 function tryOrders() {
   const told = read(examples, "../docs/EXPLORE.md");
-  const wanted = told.slice(told.indexOf("    outcome 1"), told.indexOf("This is `examples")).split("\n").map((line) => line.trim()).filter(Boolean);
+  const wanted = told.slice(told.indexOf("    outcome 1"), told.indexOf("Two threads call each other")).split("\n").map((line) => line.trim()).filter(Boolean);
   const script = read(examples, "calls_that_wait_for_each_other.json");
   same(call("lwkt_explore_orders", script, undefined, [1000, 1000]).text.trim().split("\n"), wanted, "the orders of two calls");
 }
