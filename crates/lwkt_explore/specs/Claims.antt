@@ -27,7 +27,7 @@ use Rattle.lwkt_text.specs.declared.claims.Relation.TheVariants as relations
 use Rattle.lwkt_text.specs.declared.claims.ClaimedState.{ClaimedState}
 use Rattle.lwkt_text.specs.declared.claims.ClaimedState.TheVariants as claimed
 use Rattle.lwkt_text.specs.Statements.{Statement, fact, each_of, one_of, none_of}
-use Rattle.lwkt_explore.specs.Readings.{sum_of}
+use Rattle.lwkt_explore.specs.Readings.{reading, sum_of}
 use Rattle.lwkt_explore.specs.Truths.{known, opposite, lesser, greater}
 use Rattle.lwkt_explore.specs.declared.truths.Truth.{Truth}
 use Rattle.lwkt_explore.specs.declared.truths.Truth.TheVariants.{Yes, No, Open}
@@ -156,7 +156,7 @@ shows pattern line = has_entry pattern line.log
 abbrev pub shown_truth : Pattern → List ThreadLine → Truth
 shown_truth pattern lines = if list_any (shows pattern) lines then Yes else (if list_any has_full_log lines then Open else No)
 
--- whether a fact is so of an outcome
+-- whether a fact is so of an outcome; who held a token isn't told by it
 abbrev pub fact_truth : Closing → Fact → Truth
 fact_truth o facts.Ended = known (all_ended o)
 fact_truth o facts.Stuck = known (not (all_ended o))
@@ -165,11 +165,21 @@ fact_truth o (facts.Logged id pattern) = logged_truth id pattern o.threads.items
 fact_truth o (facts.Unlogged pattern) = opposite (shown_truth pattern o.threads.items)
 fact_truth o (facts.InState id wanted) = known (any_in_state id wanted o.threads.items)
 fact_truth o (facts.Lies msg place) = known (lies o msg place)
-fact_truth o (facts.Compares c) = known (compared c.relation (sum_of o c.left) (sum_of o c.right))
+fact_truth o (facts.Stands tok holding) = Open
+fact_truth o (facts.Compares c) = known (compared c.relation (sum_of (reading o) c.left) (sum_of (reading o) c.right))
+
+-- whether what is said is so, by whether facts are
+abbrev pub truth_by : (Fact → Truth) → Statement → Truth
+truth_by so (fact f) = so f
+truth_by so (each_of a b) = lesser (truth_by so a) (truth_by so b)
+truth_by so (one_of a b) = greater (truth_by so a) (truth_by so b)
+truth_by so (none_of a) = opposite (truth_by so a)
 
 -- whether what is said of an outcome is so
 abbrev pub truth_of : Closing → Statement → Truth
-truth_of o (fact f) = fact_truth o f
-truth_of o (each_of a b) = lesser (truth_of o a) (truth_of o b)
-truth_of o (one_of a b) = greater (truth_of o a) (truth_of o b)
-truth_of o (none_of a) = opposite (truth_of o a)
+truth_of o claim = truth_by (fact_truth o) claim
+
+abbrev pub is_yes : Truth → Bool
+is_yes Yes = true
+is_yes No = false
+is_yes Open = false

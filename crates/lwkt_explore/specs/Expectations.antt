@@ -11,7 +11,7 @@ use Rattle.lwkt_explore.specs.declared.outcomes.Kind.{Kind}
 use Rattle.lwkt_explore.specs.declared.outcomes.Kind.TheVariants.{Ended, Stuck, Cut}
 use Rattle.lwkt_explore.specs.declared.outcomes.Outcome.{Outcome}
 use Rattle.lwkt_explore.specs.declared.searches.Found.{Found}
-use Rattle.lwkt_explore.specs.Claims.{truth_of}
+use Rattle.lwkt_explore.specs.Claims.{truth_of, is_yes}
 use Rattle.lwkt_explore.specs.Extents.{differs, is_complete}
 use Rattle.lwkt_explore.specs.Judgements.{is_no, is_left_open}
 use Rattle.lwkt_explore.specs.Truths.{opposite}
@@ -23,11 +23,6 @@ abbrev pub is_final : Kind → Bool
 is_final Ended = true
 is_final Stuck = true
 is_final Cut = false
-
-abbrev pub is_yes : Truth → Bool
-is_yes Yes = true
-is_yes No = false
-is_yes Open = false
 
 -- whether a claim that is so decides an expectation, or one that isn't; no order decides what is said of the run in rounds
 abbrev pub decides_by : When → Truth → Bool

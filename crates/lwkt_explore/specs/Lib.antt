@@ -10,6 +10,7 @@ pub mod Outcomes
 pub mod Readings
 pub mod Rounds
 pub mod Searches
+pub mod Standings
 pub mod Statuses
 pub mod Texts
 pub mod Tries

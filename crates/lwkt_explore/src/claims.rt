@@ -2,19 +2,22 @@
 ghost use Rattle.std.specs.Prelude.{◌≡◌};
 ghost use Rattle.std.specs.List.{list_any};
 ghost use Rattle.lwkt_base.specs.Threads.{is_done};
-ghost use Rattle.lwkt_explore.specs.Claims.{is_in_state, is_place, has_faulted, agrees, agrees_call, fits, same_thread, has_entry, has_logged, is_full, has_full_log, has_state, any_faulted, any_logged, any_full, any_in_state, related, compared, lies, all_ended, logged_truth, shows, shown_truth, fact_truth, truth_of};
+ghost use Rattle.lwkt_explore.specs.Claims.{is_in_state, is_place, has_faulted, agrees, agrees_call, fits, same_thread, has_entry, has_logged, is_full, has_full_log, has_state, any_faulted, any_logged, any_full, any_in_state, related, compared, lies, all_ended, logged_truth, shows, shown_truth, fact_truth, truth_by, truth_of};
 ghost use Rattle.lwkt_text.specs.ClaimTrees.{statement_of};
 
-use crate::readings::sum_of;
+use crate::readings::{reading, sum_of};
+use crate::sayables::Sayable;
 use crate::truths::{Truth, greater, known, lesser, opposite};
 use lwkt_base::blobs::same_bytes;
 use lwkt_base::limits::LOG_LIMIT;
 use lwkt_base::{Call, Entry, MsgId, MsgState, Owner, ThreadId, ThreadLine, ThreadState};
 use lwkt_report::Closing;
-use lwkt_text::claims::{Claim, ClaimTree, ClaimedState, Fact, Pattern, Relation, SaidCall};
+use lwkt_text::claims::{
+    Claim, ClaimTree, ClaimedState, Fact, Pattern, Quantity, Relation, SaidCall,
+};
 
 // Whether a thread stands so.
-fn is_in_state(wanted: ClaimedState, state: ThreadState) -> bool
+pub(crate) fn is_in_state(wanted: ClaimedState, state: ThreadState) -> bool
     ensures { result ≡ is_in_state wanted state }
 {
     match wanted {
@@ -39,7 +42,7 @@ fn is_place(place: MsgState, owner: Owner) -> bool
 }
 
 // Whether a thread was ended by the fault of this number.
-fn has_faulted(n: u8, state: ThreadState) -> bool
+pub(crate) fn has_faulted(n: u8, state: ThreadState) -> bool
     ensures { result ≡ has_faulted n state }
 {
     match state {
@@ -210,7 +213,7 @@ fn related(relation: Relation, a: u64, b: u64) -> bool
 }
 
 // How two sums compare, if both are there.
-fn compared(relation: Relation, left: Option<u64>, right: Option<u64>) -> bool
+pub(crate) fn compared(relation: Relation, left: Option<u64>, right: Option<u64>) -> bool
     ensures { result ≡ compared relation left right }
 {
     match (left, right) {
@@ -297,6 +300,7 @@ fn fact_truth(outcome: &Closing, fact: &Fact) -> Truth
         Fact::Unlogged(pattern) => opposite(shown_truth(pattern, threads)),
         Fact::InState(id, wanted) => known(any_in_state(*id, *wanted, threads)),
         Fact::Lies(msg, place) => known(lies(outcome, *msg, *place)),
+        Fact::Stands(..) => Truth::Open,
         Fact::Compares(said) => {
             let left = sum_of(outcome, said.left.as_slice());
             let right = sum_of(outcome, said.right.as_slice());
@@ -305,23 +309,44 @@ fn fact_truth(outcome: &Closing, fact: &Fact) -> Truth
     }
 }
 
-// Whether the claim of a tree is so of an outcome.
-fn tree_truth(outcome: &Closing, tree: &ClaimTree) -> Truth
-    ensures { result ≡ truth_of outcome.now (statement_of tree.now) }
+impl Sayable for Closing {
+    ghost use Rattle.std.specs.Prelude.{⊤};
+    ghost use Rattle.lwkt_explore.specs.Claims.{fact_truth};
+    ghost use Rattle.lwkt_explore.specs.Readings.{reading};
+
+    ghost is_sound = { λ o. ⊤ };
+
+    ghost read_by = { reading };
+
+    ghost told_by = { fact_truth };
+
+    fn read(&self, quantity: Quantity) -> Option<u64> {
+        reading(self, quantity)
+    }
+
+    fn told(&self, fact: &Fact) -> Truth {
+        fact_truth(self, fact)
+    }
+}
+
+/// Whether the claim of a tree is so of it.
+pub(crate) fn tree_truth<S: Sayable>(of: &S, tree: &ClaimTree) -> Truth
+    requires { S.is_sound of.now }
+    ensures { result ≡ truth_by (S.told_by of.now) (statement_of tree.now) }
 {
     match tree {
-        ClaimTree::Fact(fact) => fact_truth(outcome, fact),
+        ClaimTree::Fact(fact) => of.told(fact),
         ClaimTree::And(a, b) => {
-            let x = tree_truth(outcome, a);
-            let y = tree_truth(outcome, b);
+            let x = tree_truth(of, a);
+            let y = tree_truth(of, b);
             lesser(x, y)
         }
         ClaimTree::Or(a, b) => {
-            let x = tree_truth(outcome, a);
-            let y = tree_truth(outcome, b);
+            let x = tree_truth(of, a);
+            let y = tree_truth(of, b);
             greater(x, y)
         }
-        ClaimTree::Not(a) => opposite(tree_truth(outcome, a)),
+        ClaimTree::Not(a) => opposite(tree_truth(of, a)),
     }
 }
 

@@ -2,6 +2,7 @@
 ghost use Rattle.std.specs.Prelude.{◌≡◌};
 ghost use Rattle.lwkt_explore.specs.Readings.{shown_tally, reading, total_with, sum_of};
 
+use crate::sayables::Sayable;
 use lwkt_base::Cells;
 use lwkt_report::Closing;
 use lwkt_text::claims::Quantity;
@@ -38,23 +39,26 @@ pub fn reading(outcome: &Closing, quantity: Quantity) -> Option<u64>
             let line = outcome.messages.as_slice().get(msg.0 as usize)?;
             Some(line.round)
         }
+        Quantity::Variable(..) => None,
     }
 }
 
 // A total with one more quantity.
-fn total_with(outcome: &Closing, total: u64, quantity: Quantity) -> Option<u64>
-    ensures { result ≡ total_with outcome.now total quantity }
+fn total_with<S: Sayable>(from: &S, total: u64, quantity: Quantity) -> Option<u64>
+    requires { S.is_sound from.now }
+    ensures { result ≡ total_with (S.read_by from.now) total quantity }
 {
-    total.checked_add(reading(outcome, quantity)?)
+    total.checked_add(from.read(quantity)?)
 }
 
-/// The sum of quantities, if the outcome has them all and 64 bits have room for it.
-pub fn sum_of(outcome: &Closing, quantities: &[Quantity]) -> Option<u64>
-    ensures { result ≡ sum_of outcome.now quantities.now }
+/// The sum of quantities, if all are there and 64 bits have room for it.
+pub(crate) fn sum_of<S: Sayable>(from: &S, quantities: &[Quantity]) -> Option<u64>
+    requires { S.is_sound from.now }
+    ensures { result ≡ sum_of (S.read_by from.now) quantities.now }
 {
     let mut total = 0u64;
     for quantity in quantities {
-        total = total_with(outcome, total, *quantity)?;
+        total = total_with(from, total, *quantity)?;
     }
     Some(total)
 }

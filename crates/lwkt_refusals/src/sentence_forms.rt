@@ -52,6 +52,8 @@ fn subject_form(word: &str) -> &'static str {
     match word {
         "is" => "NAME is STATE",
         "at" => "M at PLACE",
+        "free" | "shared" => "T free` or `T shared",
+        "held" => "T held [by NAME]",
         "saw" => "NAME saw N",
         "found" => "NAME found BYTES",
         "refused" => "NAME refused [N]",
@@ -70,8 +72,9 @@ pub(crate) const NO_SUBJECT: &str = "SUM RELATION SUM";
 /// How many words stand before the claim of an expectation that begins with this word; none if none does.
 pub(crate) fn lead_of_claim(word: &str) -> Option<usize> {
     match word {
-        "always" | "sometimes" | "never" | "forall" | "exists" => Some(1),
+        "always" | "sometimes" | "never" | "forall" | "exists" | "eventually" => Some(1),
         "~" | "in" => Some(2),
+        "at" => Some(3),
         _ => None,
     }
 }

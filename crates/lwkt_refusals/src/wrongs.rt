@@ -28,6 +28,9 @@ fn word_of(wanted: Wanted) -> &'static str {
         Wanted::Square => "`]` is wanted here",
         Wanted::Exists => "`exists` is wanted here",
         Wanted::Rounds => "`rounds` is wanted here",
+        Wanted::All => "`all` is wanted here",
+        Wanted::Times => "`times` is wanted here",
+        Wanted::By => "`by` is wanted here",
     }
 }
 
@@ -68,6 +71,10 @@ fn words_of(what: What) -> &'static str {
         What::Quantity =>
             "a number or a cell is wanted here, or gen, round or tally and what it is of",
         What::Claim => "a claim is wanted here, as `ended`, `T.C = N` or `NAME saw N`",
+        What::OfOutcomes =>
+            "what a log has, and `stuck`, is said of outcomes: by always, sometimes, never or in rounds",
+        What::OfTimes =>
+            "who holds a token, and a variable, is said of states: by at all times or eventually",
         What::Relation => "=, !=, <, <=, > or >= is wanted here",
         What::Long => "a sentence has at most 1000 words",
         What::Length => "a text has at most 1048576 bytes",
@@ -171,7 +178,7 @@ fn has_name(names: &[Name], word: &str) -> bool {
 fn add_subject(page: &mut Page, names: &Names, word: &str) {
     if has_name(names.tokens.as_slice(), word) {
         page.say(
-            "; of a token a claim has its cells, as `T.C`, `gen T` or `tally T.P`, and no state",
+            "; of a token a claim has its cells, as `T.C`, `gen T` or `tally T.P`, or how it is held, as `T free`, `T held by NAME`",
         );
     } else if has_name(names.threads.as_slice(), word) {
         page.say("; of a thread it is written `NAME is STATE`, `NAME saw N` or the like");

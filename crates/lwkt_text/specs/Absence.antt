@@ -9,6 +9,8 @@ use Rattle.lwkt_script.specs.Format.{threads_on}
 use Rattle.lwkt_text.specs.declared.claims.Expectation.{Expectation}
 use Rattle.lwkt_text.specs.declared.claims.Fact.{Fact}
 use Rattle.lwkt_text.specs.declared.claims.Fact.TheVariants as facts
+use Rattle.lwkt_text.specs.declared.claims.Holding.{Holding}
+use Rattle.lwkt_text.specs.declared.claims.Holding.TheVariants as holdings
 use Rattle.lwkt_text.specs.declared.claims.Pattern.{Pattern}
 use Rattle.lwkt_text.specs.declared.claims.Pattern.TheVariants as patterns
 use Rattle.lwkt_text.specs.declared.claims.Quantity.{Quantity}
@@ -59,6 +61,7 @@ absent_quantity s (quantities.Cell tok cell) = absent s (mentions.Cell tok cell)
 absent_quantity s (quantities.Generation tok) = absent s (mentions.Token tok)
 absent_quantity s (quantities.Tally tok cpu) = absent s (mentions.Tally tok cpu)
 absent_quantity s (quantities.Round msg) = absent s (mentions.Message msg)
+absent_quantity s (quantities.Variable id v) = absent s (mentions.Thread id)
 
 -- the first that a sum names and the script doesn't have
 abbrev pub absent_term : Script → List Quantity → Option Mention
@@ -72,6 +75,13 @@ absent_pattern s (patterns.Reply msg error outcome) = absent s (mentions.Message
 absent_pattern s (patterns.Dropped msg call) = absent s (mentions.Message msg)
 absent_pattern s _ = None
 
+-- the thread that a token is said to be held by, if the script doesn't have it
+abbrev pub absent_holder : Script → Holding → Option Mention
+absent_holder s holdings.Free = None
+absent_holder s holdings.Held = None
+absent_holder s (holdings.HeldBy id) = absent s (mentions.Thread id)
+absent_holder s holdings.Shared = None
+
 -- the first that a fact names and the script doesn't have
 abbrev pub absent_part : Script → Fact → Option Mention
 absent_part s facts.Ended = None
@@ -81,6 +91,7 @@ absent_part s (facts.Logged id pattern) = either (absent s (mentions.Thread id))
 absent_part s (facts.Unlogged pattern) = absent_pattern s pattern
 absent_part s (facts.InState id claimed) = absent s (mentions.Thread id)
 absent_part s (facts.Lies msg place) = absent s (mentions.Message msg)
+absent_part s (facts.Stands tok holding) = either (absent s (mentions.Token tok)) (absent_holder s holding)
 absent_part s (facts.Compares sums) = either (absent_term s sums.left) (absent_term s sums.right)
 
 -- the first that a claim names and the script doesn't have

@@ -6,6 +6,8 @@ use Rattle.lwkt_base.specs.declared.names.ThreadId.{ThreadId}
 use Rattle.lwkt_base.specs.declared.limits.TheConstants.{MOST_CODE, RECORD_LIMIT}
 use Rattle.lwkt_text.specs.declared.claims.Fact.{Fact}
 use Rattle.lwkt_text.specs.declared.claims.Fact.TheVariants as facts
+use Rattle.lwkt_text.specs.declared.claims.Holding.{Holding}
+use Rattle.lwkt_text.specs.declared.claims.Holding.TheVariants as holdings
 use Rattle.lwkt_text.specs.declared.claims.Pattern.{Pattern}
 use Rattle.lwkt_text.specs.declared.claims.Pattern.TheVariants as patterns
 use Rattle.lwkt_text.specs.declared.claims.SaidCall.{SaidCall}
@@ -23,7 +25,7 @@ use Rattle.lwkt_text.specs.declared.wrongs.Wanted.TheVariants as wanted
 use Rattle.lwkt_text.specs.declared.wrongs.What.TheVariants as whats
 use Rattle.lwkt_text.specs.declared.wrongs.Wrong.{Wrong}
 use Rattle.lwkt_text.specs.Looking.{text_at, is_at, part_at, demand_at, ends_at, wrong_at, decimal_number, number_at, bytes_at, past_key}
-use Rattle.lwkt_text.specs.Naming.{token_id_at, message_id_at, cell_by_words, named_thread}
+use Rattle.lwkt_text.specs.Naming.{token_id_at, message_id_at, cell_by_words, variable_by_words, begins_variable, named_thread}
 use Rattle.lwkt_text.specs.Outcome.{◌>>=◌, ◌>>◌}
 use Rattle.lwkt_text.specs.Stepping.{call_end}
 
@@ -55,6 +57,14 @@ plain_at ws i = part_at ws i whats.Quantity (decimal_number (text_at ws i)) >>= 
 abbrev pub cell_term_at : Names → List Word → ℕ → Result Term Wrong
 cell_term_at names ws i = cell_by_words names ws i >>= λ p. Ok (term (quantities.Cell p.tok p.cell) (i + 3))
 
+-- `NAME.V` from word i on, a thread and a variable of it
+abbrev pub variable_term_at : Names → List Word → ℕ → Result Term Wrong
+variable_term_at names ws i = variable_by_words names ws i >>= λ p. Ok (term (quantities.Variable p.thread p.number) (i + 3))
+
+-- a quantity of two names and a full stop between: a variable, or a cell
+abbrev pub pointed_term_at : Names → List Word → ℕ → Result Term Wrong
+pointed_term_at names ws i = if begins_variable names ws i then variable_term_at names ws i else cell_term_at names ws i
+
 -- a quantity that a word before it names, or a number
 abbrev pub named_term : Names → List Word → ℕ → Result Term Wrong
 named_term names ws i =
@@ -62,10 +72,10 @@ named_term names ws i =
     if is_at ws i (codes "round") then round_term_at names ws i else (
     if is_at ws i (codes "tally") then tally_term_at names ws i else plain_at ws i))
 
--- the quantity that word i begins: `T.C`, or another
+-- the quantity that word i begins: `T.C`, `NAME.V`, or another
 abbrev pub term_at : Names → List Word → ℕ → Result Term Wrong
 term_at names ws i =
-    if is_at ws (i + 1) (codes ".") then cell_term_at names ws i else named_term names ws i
+    if is_at ws (i + 1) (codes ".") then pointed_term_at names ws i else named_term names ws i
 
 -- quantities with + between them from word i on, behind those that were read, as many as are left in `rest`
 abbrev pub sum_from : Names → List Word → List Quantity → ℕ → List Word → Result Sum Wrong
@@ -191,12 +201,35 @@ state_fact names ws = subject names ws >>= λ id. claimed_state_at ws >>= λ s. 
 abbrev pub lies_fact : Names → List Word → Result Fact Wrong
 lies_fact names ws = message_id_at names ws 1 >>= λ m. state_at ws >>= λ s. ends_at ws 4 >> Ok (facts.Lies m s)
 
--- what is said of messages, states and sums, or of a record that was read
+-- word 3 is `by`, and word 4 a thread
+abbrev pub holder_at : Names → List Word → Result Holding Wrong
+holder_at names ws = demand_at ws 3 (whats.Word wanted.By) (is_at ws 3 (codes "by")) >> (part_at ws 4 whats.Thread (named_thread names (text_at ws 4)) >>= λ id. ends_at ws 5 >> Ok (holdings.HeldBy id))
+
+-- `held`, or `held by THREAD`
+abbrev pub held_at : Names → List Word → Result Holding Wrong
+held_at names ws = if is_at ws 3 (codes "") then Ok holdings.Held else holder_at names ws
+
+-- one word says how a token is held
+abbrev pub held_alone : List Word → Holding → Result Holding Wrong
+held_alone ws holding = ends_at ws 3 >> Ok holding
+
+-- `TOKEN HOLDING`
+abbrev pub stands_fact : Names → List Word → Result Holding Wrong → Result Fact Wrong
+stands_fact names ws holding = token_id_at names ws 1 >>= λ tok. holding >>= λ h. Ok (facts.Stands tok h)
+
+-- what is said of tokens and sums
+abbrev pub token_fact : Names → List Word → Result Fact Wrong
+token_fact names ws =
+    if is_at ws 2 (codes "free") then stands_fact names ws (held_alone ws holdings.Free) else (
+    if is_at ws 2 (codes "held") then stands_fact names ws (held_at names ws) else (
+    if is_at ws 2 (codes "shared") then stands_fact names ws (held_alone ws holdings.Shared) else compared_fact names ws))
+
+-- what is said of messages, states, tokens and sums, or of a record that was read
 abbrev pub other_fact : Names → List Word → Result Fact Wrong
 other_fact names ws =
     if is_at ws 2 (codes "found") then logged_fact names ws (found_pattern ws) else (
     if is_at ws 2 (codes "is") then state_fact names ws else (
-    if is_at ws 2 (codes "at") then lies_fact names ws else compared_fact names ws))
+    if is_at ws 2 (codes "at") then lies_fact names ws else token_fact names ws))
 
 -- what is said of a thread's log, or else
 abbrev pub about : Names → List Word → Result Fact Wrong

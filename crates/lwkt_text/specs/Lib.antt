@@ -14,6 +14,7 @@ pub mod Claiming
 pub mod Combining
 pub mod Listing
 pub mod Expanding
+pub mod Timing
 pub mod Saying
 pub mod Drafting
 pub mod Absence

@@ -24,6 +24,7 @@ use Rattle.lwkt_text.specs.Operating.{flawless, leaf_at}
 use Rattle.lwkt_text.specs.Outcome.{◌>>=◌, ◌>>◌}
 use Rattle.lwkt_text.specs.Parting.{token_of, message_of, head_of}
 use Rattle.lwkt_text.specs.Phrasing.{cond_at}
+use Rattle.lwkt_text.specs.Timing.{is_timed, suits_all, misplaced}
 
 -- `KEY N`
 abbrev pub setting : List Word → ℕ → Result ℕ Wrong
@@ -31,7 +32,7 @@ setting ws high = number_at ws 1 1 high >>= λ n. ends_at ws 2 >> Ok n
 
 -- `always CLAIM`, or other words before it, of which there are so many
 abbrev pub expected : Names → List Word → When → ℕ → Result Said Wrong
-expected names ws when count = claim_at names ws count >>= λ claim. Ok (saids.Expect (record { when = when; claim = claim; at = place_of_word ws 0 }))
+expected names ws when count = claim_at names ws count >>= λ claim. demand_at ws count (misplaced (is_timed when)) (suits_all (is_timed when) claim) >> Ok (saids.Expect (record { when = when; claim = claim; at = place_of_word ws 0 }))
 
 -- `~exists CLAIM`
 abbrev pub denied : Names → List Word → Result Said Wrong
@@ -40,6 +41,10 @@ denied names ws = demand_at ws 1 (whats.Word wanted.Exists) (is_at ws 1 (codes "
 -- `in rounds CLAIM`
 abbrev pub expected_in_rounds : Names → List Word → Result Said Wrong
 expected_in_rounds names ws = demand_at ws 1 (whats.Word wanted.Rounds) (is_at ws 1 (codes "rounds")) >> expected names ws whens.InRounds 2
+
+-- `at all times CLAIM`
+abbrev pub expected_at_all_times : Names → List Word → Result Said Wrong
+expected_at_all_times names ws = demand_at ws 1 (whats.Word wanted.All) (is_at ws 1 (codes "all")) >> (demand_at ws 2 (whats.Word wanted.Times) (is_at ws 2 (codes "times")) >> expected names ws whens.AtAllTimes 3)
 
 -- `var NAME = EXPR`, of numbers: a name that no variable of the thread has, and no token and no message
 unfoldable pub var_of : Names → List (List ℕ) → List Word → Result ℕ Wrong
@@ -89,13 +94,19 @@ thread_said names vars ws =
     if is_at ws 0 (codes "else") then alone_said ws acts.Else else (
     if is_at ws 0 (codes "end") then alone_said ws acts.End else plainly_said names vars ws)))))
 
--- an expectation in the words of litmus tests, or of the run in rounds, or a sentence of a thread
+-- an expectation of states between two turns, or a sentence of a thread
+unfoldable pub timed_said : Names → List (List ℕ) → List Word → Result Said Wrong
+timed_said names vars ws =
+    if is_at ws 0 (codes "at") then expected_at_all_times names ws else (
+    if is_at ws 0 (codes "eventually") then expected names ws whens.Eventually 1 else (thread_said names vars ws >>= λ act. Ok (saids.Do act)))
+
+-- an expectation in the words of litmus tests, or of the run in rounds, or else
 unfoldable pub litmus_said : Names → List (List ℕ) → List Word → Result Said Wrong
 litmus_said names vars ws =
     if is_at ws 0 (codes "forall") then expected names ws whens.Always 1 else (
     if is_at ws 0 (codes "exists") then expected names ws whens.Sometimes 1 else (
     if is_at ws 0 (codes "~") then denied names ws else (
-    if is_at ws 0 (codes "in") then expected_in_rounds names ws else (thread_said names vars ws >>= λ act. Ok (saids.Do act)))))
+    if is_at ws 0 (codes "in") then expected_in_rounds names ws else timed_said names vars ws)))
 
 -- an expectation, or a sentence of a thread
 unfoldable pub claim_said : Names → List (List ℕ) → List Word → Result Said Wrong

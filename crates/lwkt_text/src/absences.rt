@@ -1,11 +1,11 @@
 //! What a claim names and the script doesn't have.
 ghost use Rattle.std.specs.Prelude.{◌≡◌, IfOk};
 ghost use Rattle.std.specs.List.{filter_map};
-ghost use Rattle.lwkt_text.specs.Absence.{cell_count, counts_additions, has_thread, is_there, absent, absent_quantity, absent_term, absent_pattern, absent_part, absent_fact, absence};
+ghost use Rattle.lwkt_text.specs.Absence.{cell_count, counts_additions, has_thread, is_there, absent, absent_quantity, absent_term, absent_pattern, absent_holder, absent_part, absent_fact, absence};
 ghost use Rattle.lwkt_text.specs.ClaimTrees.{statement_of};
 ghost use Rattle.lwkt_text.specs.Naming.{either};
 
-use crate::claims::{ClaimTree, Expectation, Fact, Pattern, Quantity};
+use crate::claims::{ClaimTree, Expectation, Fact, Holding, Pattern, Quantity};
 use crate::drafts::threads_on;
 use crate::many::Many;
 use crate::wrongs::{Mention, What, Wrong};
@@ -73,6 +73,7 @@ fn absent_quantity(script: &Script, quantity: Quantity) -> Option<Mention>
         Quantity::Generation(tok) => absent(script, Mention::Token(tok)),
         Quantity::Tally(tok, cpu) => absent(script, Mention::Tally(tok, cpu)),
         Quantity::Round(msg) => absent(script, Mention::Message(msg)),
+        Quantity::Variable(id, _) => absent(script, Mention::Thread(id)),
     }
 }
 
@@ -100,6 +101,16 @@ fn absent_pattern(script: &Script, pattern: Pattern) -> Option<Mention>
     }
 }
 
+// The thread that a token is said to be held by, if the script doesn't have it.
+fn absent_holder(script: &Script, holding: Holding) -> Option<Mention>
+    ensures { result ≡ absent_holder script.now holding }
+{
+    match holding {
+        Holding::Free | Holding::Held | Holding::Shared => None,
+        Holding::HeldBy(id) => absent(script, Mention::Thread(id)),
+    }
+}
+
 // The first that a fact names and the script doesn't have.
 fn absent_part(script: &Script, fact: &Fact) -> Option<Mention>
     ensures { result ≡ absent_part script.now fact.now }
@@ -113,6 +124,10 @@ fn absent_part(script: &Script, fact: &Fact) -> Option<Mention>
         Fact::Unlogged(pattern) => absent_pattern(script, *pattern),
         Fact::InState(id, _) => absent(script, Mention::Thread(*id)),
         Fact::Lies(msg, _) => absent(script, Mention::Message(*msg)),
+        Fact::Stands(tok, holding) => match absent(script, Mention::Token(*tok)) {
+            Some(mention) => Some(mention),
+            None => absent_holder(script, *holding),
+        },
         Fact::Compares(sums) => match absent_term(script, sums.left.as_slice()) {
             Some(mention) => Some(mention),
             None => absent_term(script, sums.right.as_slice()),

@@ -22,6 +22,8 @@ pub enum Quantity {
     Tally(TokId, CpuId),
     /// The round of a message.
     Round(MsgId),
+    /// A variable of a thread.
+    Variable(ThreadId, u8),
 }
 
 /// How two sums compare.
@@ -43,6 +45,19 @@ pub enum ClaimedState {
     Running,
     Exited,
     Faulted,
+}
+
+/// How a token is held.
+#[derive(Clone, Copy, PartialEq, Eq)]
+pub enum Holding {
+    /// By no thread.
+    Free,
+    /// By some thread, exclusively or shared.
+    Held,
+    /// By this thread.
+    HeldBy(ThreadId),
+    /// Shared, by one thread or more.
+    Shared,
 }
 
 /// Sums that are compared.
@@ -84,7 +99,7 @@ pub enum Pattern {
     Refused(Option<u8>),
 }
 
-/// What is said of an outcome without `and`, `or` and `not`.
+/// What is said of an outcome, or of a state between two turns, without `and`, `or` and `not`.
 #[derive(Drop)]
 pub enum Fact {
     /// Every thread had ended by itself or by a fault.
@@ -101,6 +116,8 @@ pub enum Fact {
     InState(ThreadId, ClaimedState),
     /// The message is there.
     Lies(MsgId, MsgState),
+    /// The token is held so.
+    Stands(TokId, Holding),
     /// The sums compare so.
     Compares(Comparison),
 }
@@ -184,7 +201,7 @@ impl Claim {
     }
 }
 
-/// Of which outcomes something is said.
+/// Of which outcomes, or of which states between two turns, something is said.
 #[derive(Clone, Copy, PartialEq, Eq)]
 pub enum When {
     /// Of each.
@@ -195,12 +212,16 @@ pub enum When {
     Never,
     /// Of that of the run in rounds.
     InRounds,
+    /// Of each state that an order of turns leads to.
+    AtAllTimes,
+    /// Of some state, on each order that goes on for ever and is fair to processors.
+    Eventually,
 }
 
 /// What a text says of the outcomes of its script.
 #[derive(Drop)]
 pub struct Expectation {
-    /// Of which outcomes it is said.
+    /// Of which outcomes or states it is said.
     pub when: When,
     /// What is said of them.
     pub claim: Claim,

@@ -1,15 +1,19 @@
 ghost use Rattle.std.specs.Prelude.{◌≡◌, ◌≤◌, ◌+◌, length, IfOk, IfSome, Ok};
 ghost use Rattle.lwkt_text.specs.Outcome.{IsAsRead};
-ghost use Rattle.lwkt_text.specs.Claiming.{tally_term_at, generation_term_at, round_term_at, plain_at, cell_term_at, named_term, term_at, sum_at, named_relation, relation_at, compared_fact, state_named, named_place, claimed_state_at, state_at, subject, saw_pattern, found_pattern, refused_pattern, aborted_pattern, empty_pattern, took_pattern, lost_pattern, answered_pattern, last_said, keyed, said_call_at, refusal_fact, logged_fact, state_fact, lies_fact, other_fact, about, faulted_fact, alone_fact, fact_of};
+ghost use Rattle.lwkt_text.specs.Claiming.{tally_term_at, generation_term_at, round_term_at, plain_at, cell_term_at, variable_term_at, pointed_term_at, named_term, term_at, sum_at, named_relation, relation_at, compared_fact, state_named, named_place, claimed_state_at, state_at, subject, saw_pattern, found_pattern, refused_pattern, aborted_pattern, empty_pattern, took_pattern, lost_pattern, answered_pattern, last_said, keyed, said_call_at, refusal_fact, logged_fact, state_fact, lies_fact, holder_at, held_at, held_alone, stands_fact, token_fact, other_fact, about, faulted_fact, alone_fact, fact_of};
 
-use crate::claims::{ClaimedState, Comparison, Fact, Pattern, Quantity, Relation, SaidCall};
+use crate::claims::{
+    ClaimedState, Comparison, Fact, Holding, Pattern, Quantity, Relation, SaidCall,
+};
 use crate::looks::{
     bytes_at, decimal_number, demand_at, ends_at, is_at, number_at, past_key, text_at, wrong_at,
 };
 use crate::many::Many;
 use crate::slips::checked;
 use crate::steps::call_end;
-use crate::tables::{Names, cell_at, message_id_at, named_thread, token_id_at};
+use crate::tables::{
+    Names, begins_variable, cell_at, message_id_at, named_thread, token_id_at, variable_at,
+};
 use crate::words::Word;
 use crate::wrongs::{Slip, Wanted, What, Wrong};
 use lwkt_base::limits::MOST_CODE;
@@ -105,6 +109,32 @@ fn cell_term_at(names: &Names, words: &[Word], i: usize) -> Result<Term, Wrong>
     })
 }
 
+// `NAME.V` from word i on, a thread and a variable of it.
+fn variable_term_at(names: &Names, words: &[Word], i: usize) -> Result<Term, Wrong>
+    requires { i ≤ 10000 }
+    ensures exact { result ≡ variable_term_at names.now words.now i }
+    ensures most { IfOk result (λ t. t.end ≤ i + 4) }
+{
+    let place = variable_at(names, words, i)?;
+    Ok(Term {
+        quantity: Quantity::Variable(place.thread, place.number),
+        end: i + 3,
+    })
+}
+
+// A quantity of two names and a full stop between: a cell, or a variable.
+fn pointed_term_at(names: &Names, words: &[Word], i: usize) -> Result<Term, Wrong>
+    requires { i ≤ 10000 }
+    ensures exact { result ≡ pointed_term_at names.now words.now i }
+    ensures most { IfOk result (λ t. t.end ≤ i + 4) }
+{
+    if begins_variable(names, words, i) {
+        variable_term_at(names, words, i)
+    } else {
+        cell_term_at(names, words, i)
+    }
+}
+
 // A quantity that a word before it names, or a number.
 fn named_term(names: &Names, words: &[Word], i: usize) -> Result<Term, Wrong>
     requires { i ≤ 10000 }
@@ -126,7 +156,7 @@ fn term_at(names: &Names, words: &[Word], i: usize) -> Result<Term, Wrong>
     ensures most { IfOk result (λ t. t.end ≤ i + 4) }
 {
     if is_at(words, i + 1, ".") {
-        cell_term_at(names, words, i)
+        pointed_term_at(names, words, i)
     } else {
         named_term(names, words, i)
     }
@@ -425,7 +455,65 @@ fn lies_fact(names: &Names, words: &[Word]) -> Result<Fact, Wrong>
     Ok(Fact::Lies(msg, state))
 }
 
-// What is said of messages, states and sums, or of a record that was read.
+// The word 3 is `by`, and word 4 a thread.
+fn holder_at(names: &Names, words: &[Word]) -> Result<Holding, Wrong>
+    ensures { result ≡ holder_at names.now words.now }
+{
+    demand_at(words, 3, What::Word(Wanted::By), is_at(words, 3, "by"))?;
+    match named_thread(names, text_at(words, 4)) {
+        Some(id) => {
+            ends_at(words, 5)?;
+            Ok(Holding::HeldBy(id))
+        }
+        None => Err(wrong_at(words, 4, What::Thread)),
+    }
+}
+
+// `held`, or `held by THREAD`
+fn held_at(names: &Names, words: &[Word]) -> Result<Holding, Wrong>
+    ensures { result ≡ held_at names.now words.now }
+{
+    if text_at(words, 3) == "" {
+        Ok(Holding::Held)
+    } else {
+        holder_at(names, words)
+    }
+}
+
+// One word says how a token is held.
+fn held_alone(words: &[Word], holding: Holding) -> Result<Holding, Wrong>
+    ensures { result ≡ held_alone words.now holding }
+{
+    ends_at(words, 3)?;
+    Ok(holding)
+}
+
+// `TOKEN HOLDING`
+fn stands_fact(
+    names: &Names,
+    words: &[Word],
+    holding: Result<Holding, Wrong>,
+) -> Result<Fact, Wrong>
+    ensures { result ≡ stands_fact names.now words.now holding }
+{
+    let tok = token_id_at(names, words, 1)?;
+    Ok(Fact::Stands(tok, holding?))
+}
+
+// What is said of tokens and sums.
+fn token_fact(alloc: Global, names: &Names, words: &[Word]) -> Result<Fact, Slip>
+    requires { length words.now ≤ 1000 }
+    ensures { IsAsRead result (token_fact names.now words.now) }
+{
+    match text_at(words, 2) {
+        "free" => checked(stands_fact(names, words, held_alone(words, Holding::Free))),
+        "held" => checked(stands_fact(names, words, held_at(names, words))),
+        "shared" => checked(stands_fact(names, words, held_alone(words, Holding::Shared))),
+        _ => compared_fact(alloc, names, words),
+    }
+}
+
+// What is said of messages, states, tokens and sums, or of a record that was read.
 fn other_fact(alloc: Global, names: &Names, words: &[Word]) -> Result<Fact, Slip>
     requires { length words.now ≤ 1000 }
     ensures { IsAsRead result (other_fact names.now words.now) }
@@ -434,7 +522,7 @@ fn other_fact(alloc: Global, names: &Names, words: &[Word]) -> Result<Fact, Slip
         "found" => checked(logged_fact(names, words, found_pattern(words))),
         "is" => checked(state_fact(names, words)),
         "at" => checked(lies_fact(names, words)),
-        _ => compared_fact(alloc, names, words),
+        _ => token_fact(alloc, names, words),
     }
 }
 

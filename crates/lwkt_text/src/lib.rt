@@ -35,6 +35,7 @@ mod slips;
 mod steps;
 mod steps_written;
 mod tables;
+mod timing;
 mod unsaid;
 mod words;
 mod writers;

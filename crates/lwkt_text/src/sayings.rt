@@ -1,5 +1,5 @@
 ghost use Rattle.std.specs.Prelude.{◌≡◌, ◌<◌, ◌≤◌, length, IfOk};
-ghost use Rattle.lwkt_text.specs.Saying.{setting, expected, denied, expected_in_rounds, var_of, test_said, assertion_said, times_said, alone_said, leaf_said, plainly_said, thread_said, litmus_said, claim_said, part_said, said_by_sentence};
+ghost use Rattle.lwkt_text.specs.Saying.{setting, expected, denied, expected_in_rounds, var_of, test_said, assertion_said, times_said, alone_said, leaf_said, plainly_said, thread_said, expected_at_all_times, timed_said, litmus_said, claim_said, part_said, said_by_sentence};
 ghost use Rattle.lwkt_text.specs.Outcome.{IsAsRead};
 ghost use Rattle.lwkt_text.specs.Within.{MayBeSaid};
 
@@ -14,6 +14,7 @@ use crate::operands::{flawless, leaf_at};
 use crate::phrases::cond_at;
 use crate::slips::checked;
 use crate::tables::Names;
+use crate::timing::{is_timed, misplaced, suits_all};
 use crate::words::Word;
 use crate::wrongs::{Slip, Wanted, What, Wrong};
 use lwkt_base::limits::{MOST_IDLE, MOST_REPEATS, MOST_TURNS};
@@ -73,11 +74,14 @@ fn expected(
 ) -> Result<Said, Slip>
     requires few { length words.now ≤ 1000 }
     requires some { 1 ≤ count }
-    requires most { count ≤ 2 }
+    requires most { count ≤ 3 }
     ensures exact { IsAsRead result (expected names.now words.now when count) }
     ensures limits { IfOk result (MayBeSaid names.now.cpus) }
 {
     let claim = claim_at(alloc, names, words, count)?;
+    let timed = is_timed(when);
+    let suits = suits_all(timed, claim.tree());
+    checked(demand_at(words, count, misplaced(timed), suits))?;
     Ok(Said::Expect(Expectation {
         when,
         claim,
@@ -105,6 +109,19 @@ fn expected_in_rounds(alloc: Global, names: &Names, words: &[Word]) -> Result<Sa
     let is_rounds = is_at(words, 1, "rounds");
     checked(demand_at(words, 1, What::Word(Wanted::Rounds), is_rounds))?;
     expected(alloc, names, words, When::InRounds, 2)
+}
+
+// `at all times CLAIM`
+fn expected_at_all_times(alloc: Global, names: &Names, words: &[Word]) -> Result<Said, Slip>
+    requires { length words.now ≤ 1000 }
+    ensures exact { IsAsRead result (expected_at_all_times names.now words.now) }
+    ensures limits { IfOk result (MayBeSaid names.now.cpus) }
+{
+    let is_all = is_at(words, 1, "all");
+    checked(demand_at(words, 1, What::Word(Wanted::All), is_all))?;
+    let is_times = is_at(words, 2, "times");
+    checked(demand_at(words, 2, What::Word(Wanted::Times), is_times))?;
+    expected(alloc, names, words, When::AtAllTimes, 3)
 }
 
 // `var NAME = EXPR`, of numbers: a name that no variable of the thread has, and no token and no message.
@@ -198,7 +215,21 @@ fn thread_said(alloc: Global, names: &Names, vars: &[Name], words: &[Word]) -> R
     }
 }
 
-// An expectation in the words of litmus tests, or of the run in rounds, or a sentence of a thread.
+// An expectation of states between two turns, or a sentence of a thread.
+#[tactic(auto, unfolding(crate::specs::Saying::timed_said))]
+fn timed_said(alloc: Global, names: &Names, vars: &[Name], words: &[Word]) -> Result<Said, Slip>
+    requires { length words.now ≤ 1000 }
+    ensures exact { IsAsRead result (timed_said names.now vars.now words.now) }
+    ensures limits { IfOk result (MayBeSaid names.now.cpus) }
+{
+    match text_at(words, 0) {
+        "at" => expected_at_all_times(alloc, names, words),
+        "eventually" => expected(alloc, names, words, When::Eventually, 1),
+        _ => Ok(Said::Do(thread_said(alloc, names, vars, words)?)),
+    }
+}
+
+// An expectation in the words of litmus tests, or of the run in rounds, or else.
 #[tactic(auto, unfolding(crate::specs::Saying::litmus_said))]
 fn litmus_said(alloc: Global, names: &Names, vars: &[Name], words: &[Word]) -> Result<Said, Slip>
     requires { length words.now ≤ 1000 }
@@ -210,7 +241,7 @@ fn litmus_said(alloc: Global, names: &Names, vars: &[Name], words: &[Word]) -> R
         "exists" => expected(alloc, names, words, When::Sometimes, 1),
         "~" => denied(alloc, names, words),
         "in" => expected_in_rounds(alloc, names, words),
-        _ => Ok(Said::Do(thread_said(alloc, names, vars, words)?)),
+        _ => timed_said(alloc, names, vars, words),
     }
 }
 

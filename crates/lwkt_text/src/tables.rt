@@ -1,5 +1,6 @@
-ghost use Rattle.std.specs.Prelude.{◌≡◌, ◌≤◌};
-ghost use Rattle.lwkt_text.specs.Naming.{position, reference, token_id_at, message_id_at, cells_of, cell_by_words, thread_length, numbered_thread, named_thread, thread_id_at};
+ghost use Rattle.std.specs.Prelude.{◌≡◌, ◌≤◌, option_and_then};
+ghost use Rattle.lwkt_text.specs.Naming.{position, reference, token_id_at, message_id_at, cells_of, cell_by_words, thread_length, numbered_thread, named_thread, variable_number, variable_by_words, begins_variable, thread_id_at};
+ghost use Rattle.lwkt_script.specs.Field.{within};
 
 use crate::looks::{decimal_number, demand_at, is_at, number_at, text_at, wrong_at};
 use crate::many::Many;
@@ -43,6 +44,15 @@ pub struct CellPlace {
     pub tok: TokId,
     /// The cell's number there, 0 to 3.
     pub cell: u8,
+}
+
+/// A variable of a thread, by its number.
+#[derive(Clone, Copy)]
+pub struct VariablePlace {
+    /// The thread.
+    pub thread: ThreadId,
+    /// The variable's number there, 0 to 7.
+    pub number: u8,
 }
 
 /// The place of a name in a list, the first where it stands twice.
@@ -145,6 +155,60 @@ pub fn named_thread(names: &Names, text: &str) -> Option<ThreadId>
 {
     let i = position(names.threads.as_slice(), text)?;
     names.ids.as_slice().get(i).copied()
+}
+
+// The number of the variable of a name of the thread of a place.
+fn variable_number(vars: &[Variable], i: usize, text: &str) -> Option<usize>
+    ensures { result ≡ variable_number i vars.now text.now }
+{
+    let mut number = 0usize;
+    for variable in vars {
+        if variable.thread == i {
+            if variable.name.as_str() == text {
+                return Some(number);
+            }
+            number += 1;
+        }
+    }
+    None
+}
+
+// A number that a variable may have.
+fn small_number(number: Option<usize>) -> Option<u8>
+    ensures { result ≡ option_and_then (within 0 7) number }
+{
+    match number {
+        Some(n) if n <= 7 => Some(n as u8),
+        _ => None,
+    }
+}
+
+/// Words i to i + 2, a thread's name, a full stop and a variable of it.
+#[tactic(auto, unfolding(crate::specs::Naming::variable_by_words))]
+pub fn variable_at(names: &Names, words: &[Word], i: usize) -> Result<VariablePlace, Wrong>
+    requires { i ≤ 100000 }
+    ensures { result ≡ variable_by_words names.now words.now i }
+{
+    let Some(at) = position(names.threads.as_slice(), text_at(words, i)) else {
+        return Err(wrong_at(words, i, What::Thread));
+    };
+    let Some(thread) = names.ids.as_slice().get(at).copied() else {
+        return Err(wrong_at(words, i, What::Thread));
+    };
+    let number = variable_number(names.vars.as_slice(), at, text_at(words, i + 2));
+    match small_number(number) {
+        Some(number) => Ok(VariablePlace { thread, number }),
+        None => Err(wrong_at(words, i + 2, What::Variable)),
+    }
+}
+
+/// Whether word i is the name of a thread, and of no token.
+pub fn begins_variable(names: &Names, words: &[Word], i: usize) -> bool
+    ensures { result ≡ begins_variable names.now words.now i }
+{
+    let text = text_at(words, i);
+    position(names.threads.as_slice(), text).is_some()
+        && position(names.tokens.as_slice(), text).is_none()
 }
 
 /// The thread that word i begins.

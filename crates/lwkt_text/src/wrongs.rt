@@ -53,6 +53,10 @@ pub enum What {
     Quantity,
     /// A claim is wanted.
     Claim,
+    /// The claim names what an outcome alone has: entries of a log, or `stuck`.
+    OfOutcomes,
+    /// The claim names what a state between two turns alone has: who holds a token, or a variable.
+    OfTimes,
     /// A relation is wanted: `=`, `!=`, `<`, `<=`, `>` or `>=`.
     Relation,
     /// A sentence has at most 1000 words.
@@ -116,6 +120,12 @@ pub enum Wanted {
     Exists,
     /// `rounds`
     Rounds,
+    /// `all`
+    All,
+    /// `times`
+    Times,
+    /// `by`
+    By,
 }
 
 /// What is wrong with a text, and where.

@@ -1,5 +1,5 @@
 -- What things are called by a text: their names there, or their numbers where they have none (own).
-use Rattle.std.specs.Prelude.{ℕ, ◌+◌, ◌-◌, ◌==◌, ◌&&◌, Bool, if◌then◌else◌, List, [], ◌∷◌, ◌++◌, filter, length, max, replicate, slice_get, codes, Option, Some, None, unwrap_or, option_and_then}
+use Rattle.std.specs.Prelude.{ℕ, ◌+◌, ◌-◌, ◌==◌, ◌&&◌, Bool, if◌then◌else◌, List, [], ◌∷◌, ◌++◌, length, max, replicate, slice_get, codes, Option, Some, None, unwrap_or, option_and_then}
 use Rattle.std.specs.Fmt.{decimal}
 use Rattle.std.specs.Option.{option_map_or}
 use Rattle.lwkt_base.specs.declared.names.Mode.{Mode}
@@ -12,7 +12,7 @@ use Rattle.lwkt_script.specs.declared.scripts.Script.{Script}
 use Rattle.lwkt_script.specs.declared.scripts.ThreadSpec.{ThreadSpec}
 use Rattle.lwkt_text.specs.declared.tables.Names.{Names}
 use Rattle.lwkt_text.specs.declared.tables.Variable.{Variable}
-use Rattle.lwkt_text.specs.Naming.{cells_of}
+use Rattle.lwkt_text.specs.Naming.{cells_of, variables_of}
 
 -- a name, or a number where there is none
 abbrev pub name_or : ℕ → Option (List ℕ) → List ℕ
@@ -49,10 +49,6 @@ thread_name names id = option_and_then (λ i. slice_get names.threads i) (place_
 
 abbrev pub thread_called : Names → ThreadId → List ℕ
 thread_called names id = unwrap_or (thread_name names id) (thread_number id)
-
--- the variables of the thread of a place
-abbrev pub variables_of : ℕ → List Variable → List Variable
-variables_of i vars = filter (λ v. v.thread == i) vars
 
 -- the variable of a number of a thread, if it has a name
 abbrev pub variable_of : Names → ThreadId → ℕ → Option Variable

@@ -1,5 +1,5 @@
 use Rattle.std.proofs.Common.{◌≡◌, drop, slice_get}
-use Rattle.lwkt_told.specs.Called.{variables_of}
+use Rattle.lwkt_text.specs.Naming.{variables_of}
 use Rattle.lwkt_told.proofs.called.variable_at.Given as goal
 
 abbrev pub invariant-loop-variable : goal.invariant-loop-variable
