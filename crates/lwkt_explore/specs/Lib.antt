@@ -5,6 +5,7 @@ pub mod Jsons
 pub mod Judgements
 pub mod Judging
 pub mod Laws
+pub mod Moments
 pub mod Orders
 pub mod Outcomes
 pub mod Readings

@@ -1,5 +1,5 @@
 //! The search: over states of the plain machine, breadth first, so that orders are shortest.
-ghost use Rattle.std.specs.Prelude.{◌≡◌, ◌≤◌, ◌<◌, true, false, None, [], length, All, IsTrue, IsFalse, IfOk, IfErr, IfSome, OnOk};
+ghost use Rattle.std.specs.Prelude.{◌≡◌, ◌≤◌, ◌<◌, max, true, false, None, [], length, All, IsTrue, IsFalse, IfOk, IfErr, IfSome, OnOk};
 ghost use Rattle.lwkt_explore.specs.Extents.{bound_met, bound_met_full, bound_of, bytes_seen, differs, is_complete, room_of};
 ghost use Rattle.lwkt_explore.specs.Outcomes.{AreOnce, AreOutcomes, AreShort, AreWhole, HasEnded, HasReport, RefusesSearch};
 ghost use Rattle.lwkt_explore.specs.Searches.{AreShortest, IsLastAt, IsSearched, IsLostAlong, IsShortestOrder, IsUnderWay, IsUnended, NoneIsLost, StuckAt, TellsWhole};
@@ -28,7 +28,7 @@ use lwkt_search::{Growth, LAST, Refusal, Seen, Task, lost_states};
 use std::alloc::Global;
 
 // What a search of the plain machine finds.
-type Growing = lwkt_search::Found<Store>;
+pub(crate) type Growing = lwkt_search::Found<Store>;
 
 /// What a search may take. If a bound is met, not every order is tried.
 #[derive(Clone, Copy, PartialEq, Eq)]
@@ -574,6 +574,57 @@ fn ended<W: Watch>(
     }
 }
 
+/// What is searched of a script, within bounds.
+pub(crate) fn task_of<'s>(
+    alloc: Global,
+    script: &'s Script,
+    bounds: Bounds,
+    method: Method,
+) -> Result<Task<Explorer<'s>>, OutOfMemory>
+    ensures script { IfOk result (λ task. task.machine.script.now ≡ script.now) }
+    ensures method { IfOk result (λ task. task.machine.method ≡ method) }
+    ensures cpus { IfOk result (λ task. task.cpus ≡ script.now.cpus) }
+    ensures turns { IfOk result (λ task. task.turns ≡ bounds.turns) }
+    ensures bound { IfOk result (λ task. task.bound ≡ max bounds.states 1) }
+{
+    Ok(Task {
+        machine: Explorer {
+            script,
+            method,
+            outlooks: Outlooks::of(alloc, script)?,
+            mails: Mails::of(alloc, script)?,
+        },
+        cpus: script.cpus,
+        bound: bounds.states.max(1),
+        turns: bounds.turns,
+    })
+}
+
+/// What the search finds with as much memory as there is, and what room it had; nothing if there is none for it.
+pub(crate) fn found_for<'s, W: Watch>(
+    alloc: Global,
+    task: &mut Task<Explorer<'s>>,
+    bounds: Bounds,
+    goes_on: bool,
+    watch: &mut W,
+) -> Option<(Growing, Room)>
+    requires sound { IsSound (opened task.old.machine.script.now) }
+    ensures machine { task.new.machine ≡ task.old.machine }
+    ensures cpus { task.new.cpus ≡ task.old.cpus }
+    ensures turns { task.new.turns ≡ task.old.turns }
+    ensures fewer { task.new.bound ≤ task.old.bound }
+    ensures some { IfSome result (λ made. 0 < task.new.bound) }
+    ensures found { IfSome result (λ made. IsSearched task.new.machine.script.now task.new.cpus task.new.turns task.new.bound made.0) }
+{
+    let mut looking = Looking {
+        watch,
+        goes_on,
+        most: bounds.bytes,
+        is_full: false,
+    };
+    found_in(alloc, task, &mut looking)
+}
+
 // Tries every order of turns of a script, within bounds, and nothing else; none if it doesn't go on.
 fn searched<W: Watch>(
     alloc: Global,
@@ -597,25 +648,9 @@ fn searched<W: Watch>(
     ensures tried { IfOk result (λ found. HasTriedStates bounds.states found.tried) }
     ensures refused { IfErr result (λ fault. RefusesSearch script.now fault) }
 {
-    let mut task = Task {
-        machine: Explorer {
-            script,
-            method,
-            outlooks: Outlooks::of(alloc, script)?,
-            mails: Mails::of(alloc, script)?,
-        },
-        cpus: script.cpus,
-        bound: bounds.states.max(1),
-        turns: bounds.turns,
-    };
-    let mut looking = Looking {
-        watch,
-        goes_on,
-        most: bounds.bytes,
-        is_full: false,
-    };
+    let mut task = task_of(alloc, script, bounds, method)?;
     standstills_are_waits();
-    match found_in(alloc, &mut task, &mut looking) {
+    match found_for(alloc, &mut task, bounds, goes_on, watch) {
         Some((found, room)) => ended::<W>(alloc, script, &task, found, room, bounds.compared),
         None => Ok(Found {
             outcomes: Outcomes::new(alloc),

@@ -50,6 +50,7 @@ pub use many::Many;
 pub use names::Name;
 pub use readers::{Reading, Refusal, read_text};
 pub use tables::{Names, Variable};
+pub use timing::is_timed;
 pub use unsaid::Unsaid;
 pub use words::Word;
 pub use writers::text_of;
