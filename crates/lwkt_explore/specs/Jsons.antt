@@ -1,6 +1,6 @@
 -- What is found, as one JSON object (docs/EXPLORE.md; own). Objects and lists have no blanks and numbers are plain decimal; what stands
 -- between quotation marks is ASCII without control characters, quotation marks and backslashes.
-use Rattle.std.specs.Prelude.{ℕ, ◌+◌, ◌==◌, ◌&&◌, nat_le, not, Bool, true, false, if◌then◌else◌, List, [], ◌∷◌, ◌++◌, Option, None, Some, codes, filter, find, get_or, length, min, take}
+use Rattle.std.specs.Prelude.{ℕ, ◌+◌, ◌==◌, ◌&&◌, nat_le, not, Bool, true, false, if◌then◌else◌, List, [], ◌∷◌, ◌++◌, Option, None, Some, codes, filter, find, get_or, length, min, slice_get, take}
 use Rattle.std.specs.Fmt.{decimal}
 use Rattle.std.specs.List.{list_all}
 use Rattle.lwkt_base.specs.declared.entries.Entry.{Entry}
@@ -21,18 +21,21 @@ use Rattle.lwkt_report.specs.Report.{numbered_lines, owner_text, record_text}
 use Rattle.lwkt_text.specs.declared.claims.Expectation.{Expectation}
 use Rattle.lwkt_text.specs.Naming.{cells_of}
 use Rattle.lwkt_told.specs.Called.{called, thread_called, thread_number}
+use Rattle.lwkt_explore.specs.declared.besides.Beside.{Beside}
 use Rattle.lwkt_explore.specs.declared.extents.Bound.{Bound}
 use Rattle.lwkt_explore.specs.declared.extents.Bound.TheVariants.{States, Turns, Memory, Refused, Stopped, Differs}
 use Rattle.lwkt_explore.specs.declared.extents.Extent.{Extent}
 use Rattle.lwkt_explore.specs.declared.extents.Extent.TheVariants.{Complete, Part, Sampled}
 use Rattle.lwkt_explore.specs.declared.forms.Telling.{Telling}
 use Rattle.lwkt_explore.specs.declared.losses.Lost.{Lost}
+use Rattle.lwkt_explore.specs.declared.moments.Moment.{Moment}
 use Rattle.lwkt_explore.specs.declared.outcomes.Outcome.{Outcome}
 use Rattle.lwkt_explore.specs.declared.searches.Found.{Found}
 use Rattle.lwkt_explore.specs.declared.searches.Tried.{Tried}
 use Rattle.lwkt_explore.specs.declared.searches.Tried.TheVariants.{States as TriedStates, Orders}
 use Rattle.lwkt_explore.specs.Expectations.{decides, truth_over_orders}
 use Rattle.lwkt_explore.specs.Extents.{is_complete}
+use Rattle.lwkt_explore.specs.Judgements.{is_no}
 use Rattle.lwkt_explore.specs.Texts.{kind_text}
 use Rattle.lwkt_explore.specs.Verdicts.{truth_text}
 
@@ -231,13 +234,18 @@ abbrev pub witness_json : Option Outcome → List ℕ
 witness_json None = []
 witness_json (Some outcome) = codes ",\"order\":" ++ list_json number_json outcome.order.items
 
--- the line of what a text says, and whether it is so
-abbrev pub claim_begun : List ℕ → Option Closing → Found → Expectation → List ℕ
-claim_begun bytes rounds found e = codes "{\"line\":" ++ (decimal (line_of bytes e.at) ++ (codes ",\"verdict\":\"" ++ (truth_text (truth_over_orders rounds found e) ++ codes "\"")))
+-- the order to a state at which a claim fails, and the part that goes round behind it
+abbrev pub moment_json : Option Moment → List ℕ
+moment_json None = []
+moment_json (Some m) = if is_no m.truth then (codes ",\"order\":" ++ list_json number_json m.order.items ++ (codes ",\"repeats\":" ++ list_json number_json m.part.items)) else []
 
--- the same, and the order of the outcome that decides it, if one does
-abbrev pub claim_json : List ℕ → Option Closing → Found → ℕ → Expectation → List ℕ
-claim_json bytes rounds found n e = claim_begun bytes rounds found e ++ (witness_json (find (decides e) found.outcomes.all.items) ++ codes "}")
+-- the line of what a text says, and whether it is so
+abbrev pub claim_begun : List ℕ → Beside → Found → ℕ → Expectation → List ℕ
+claim_begun bytes beside found n e = codes "{\"line\":" ++ (decimal (line_of bytes e.at) ++ (codes ",\"verdict\":\"" ++ (truth_text (truth_over_orders beside found n e) ++ codes "\"")))
+
+-- the same, and the order of the outcome or the state that decides it, if one does
+abbrev pub claim_json : List ℕ → Beside → Found → ℕ → Expectation → List ℕ
+claim_json bytes beside found n e = claim_begun bytes beside found n e ++ (witness_json (find (decides e) found.outcomes.all.items) ++ (moment_json (slice_get beside.moments.items n) ++ codes "}"))
 
 -- how many turns were tried, whether each order was, and each turn, and what ended the search
 abbrev pub extent_json : Found → List ℕ
@@ -245,7 +253,7 @@ extent_json found =
     codes ",\"turns\":" ++ decimal found.turns ++ codes ",\"complete\":" ++ bool_json (is_complete found) ++ codes ",\"whole\":" ++ bool_json found.is_whole ++ codes ",\"bound\":" ++ bound_json found.extent
 
 -- the outcomes, in the order in which they were found, the lost states, what was tried, whether that is all, and the claims
-abbrev pub finding_json : Option Telling → List ℕ → List Expectation → Option Closing → Found → List ℕ
-finding_json telling bytes expectations rounds found =
+abbrev pub finding_json : Option Telling → List ℕ → List Expectation → Beside → Found → List ℕ
+finding_json telling bytes expectations beside found =
     codes "{\"outcomes\":[" ++ items_json (outcome_json telling found.tried found.outcomes.counts.items) found.outcomes.all.items ++ codes "],\"lost\":" ++ lost_json found.lost ++ tried_json found.tried ++ extent_json found
-    ++ codes ",\"claims\":[" ++ items_json (claim_json bytes rounds found) expectations ++ codes "]}\n"
+    ++ codes ",\"claims\":[" ++ items_json (claim_json bytes beside found) expectations ++ codes "]}\n"

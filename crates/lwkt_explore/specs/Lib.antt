@@ -1,3 +1,4 @@
+pub mod Besides
 pub mod Claims
 pub mod Expectations
 pub mod Extents

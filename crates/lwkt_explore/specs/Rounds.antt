@@ -19,6 +19,8 @@ are_rounds whens.Always = false
 are_rounds whens.Sometimes = false
 are_rounds whens.Never = false
 are_rounds whens.InRounds = true
+are_rounds whens.AtAllTimes = false
+are_rounds whens.Eventually = false
 
 -- whether something is said of the run in rounds
 abbrev pub is_of_rounds : Expectation → Bool

@@ -6,6 +6,7 @@ ghost use Rattle.lwkt_explore.specs.Judgements.{judgement_of};
 
 use crate::forms::Telling;
 use crate::judgements::{Judgement, judgement_of};
+use crate::moments::Moment;
 use crate::verdicts::{verdicts_quoted, verdicts_said};
 use lwkt_base::OutOfMemory;
 use lwkt_report::{Closing, report};
@@ -35,16 +36,17 @@ pub fn account_of(
     expectations: &[Expectation],
     mode: Mode,
     outcome: &Closing,
+    moments: &[Moment],
 ) -> Result<Account, OutOfMemory>
     ensures report { IfOk result (λ account. string_bytes account.report ≡ report_text outcome.now) }
-    ensures judgement { IfOk result (λ account. account.judgement ≡ judgement_of expectations.now mode outcome.now) }
+    ensures judgement { IfOk result (λ account. account.judgement ≡ judgement_of expectations.now mode outcome.now moments.now) }
 {
     let report = report(alloc, outcome)?;
-    let verdicts = verdicts_said(alloc, path, bytes, expectations, mode, outcome)?;
+    let verdicts = verdicts_said(alloc, path, bytes, expectations, mode, outcome, moments)?;
     Ok(Account {
         report,
         verdicts,
-        judgement: judgement_of(expectations, mode, outcome),
+        judgement: judgement_of(expectations, mode, outcome, moments),
     })
 }
 
@@ -60,15 +62,16 @@ pub fn told_account_of(
     expectations: &[Expectation],
     mode: Mode,
     outcome: &Closing,
+    moments: &[Moment],
 ) -> Result<Account, OutOfMemory>
     ensures report { IfOk result (λ account. string_bytes account.report ≡ told_text telling.now.names.now telling.now.script.now outcome.now) }
-    ensures judgement { IfOk result (λ account. account.judgement ≡ judgement_of expectations.now mode outcome.now) }
+    ensures judgement { IfOk result (λ account. account.judgement ≡ judgement_of expectations.now mode outcome.now moments.now) }
 {
     let report = told(alloc, telling.names, telling.script, outcome)?;
-    let verdicts = verdicts_quoted(alloc, paints, bytes, expectations, mode, outcome)?;
+    let verdicts = verdicts_quoted(alloc, paints, bytes, expectations, mode, outcome, moments)?;
     Ok(Account {
         report,
         verdicts,
-        judgement: judgement_of(expectations, mode, outcome),
+        judgement: judgement_of(expectations, mode, outcome, moments),
     })
 }

@@ -1,16 +1,16 @@
 //! What a text says of the outcomes of its script, over all orders.
 ghost use Rattle.std.specs.Prelude.{◌≡◌};
-ghost use Rattle.std.specs.List.{list_all, list_any, find};
+ghost use Rattle.std.specs.List.{list_any, find};
 ghost use Rattle.std.specs.Option.{option_copied};
-ghost use Rattle.lwkt_explore.specs.Expectations.{is_final, decides_by, decides, leaves_open, truth_decided, truth_of_all, truth_over_orders, holds, status_of_text};
+ghost use Rattle.lwkt_explore.specs.Expectations.{is_final, decides_by, decides, leaves_open, truth_decided, truth_of_all, truth_over_orders, holds, all_hold, status_of_text};
 
+use crate::besides::{Beside, moment_truth};
 use crate::claims::truth_of;
 use crate::outcomes::{Kind, Outcome};
 use crate::rounds::truth_in_rounds;
 use crate::searches::Found;
 use crate::statuses::status_of_found;
 use crate::truths::{Truth, opposite};
-use lwkt_report::Closing;
 use lwkt_text::claims::{Expectation, When};
 
 // Whether an outcome wasn't cut: only such ones are judged.
@@ -30,7 +30,7 @@ fn decides_by(when: When, truth: Truth) -> bool
     match when {
         When::Always => matches!(truth, Truth::No),
         When::Sometimes | When::Never => matches!(truth, Truth::Yes),
-        When::InRounds => false,
+        When::InRounds | When::AtAllTimes | When::Eventually => false,
     }
 }
 
@@ -86,7 +86,7 @@ fn truth_decided(when: When) -> Truth
     match when {
         When::Always | When::Never => Truth::No,
         When::Sometimes => Truth::Yes,
-        When::InRounds => Truth::Open,
+        When::InRounds | When::AtAllTimes | When::Eventually => Truth::Open,
     }
 }
 
@@ -104,42 +104,48 @@ fn truth_of_all(expectation: &Expectation, found: &Found) -> Truth
     Truth::Open
 }
 
-/// Whether an expectation of a text holds over all orders, by what was found. An `always` or a `never` doesn't if an outcome decides it,
-/// and a `sometimes` does. If none decides it, it is the other way round where every order was tried and no outcome leaves it open; else
-/// it is `Open`. What is said of the run in rounds holds if it is so of the outcome of that alone.
+/// Whether an expectation of a text holds over all orders, by what was found; `n` is its number among all. An `always` or a `never`
+/// doesn't if an outcome decides it, and a `sometimes` does. If none decides it, it is the other way round where every order was tried and
+/// no outcome leaves it open; else it is `Open`. What is said of the run in rounds holds if it is so of the outcome of that alone, and what
+/// is said of states between two turns by what became of it.
 pub fn truth_over_orders(
+    n: usize,
     expectation: &Expectation,
-    rounds: &Option<Closing>,
+    beside: &Beside,
     found: &Found,
 ) -> Truth
-    ensures { result ≡ truth_over_orders rounds.now found.now expectation.now }
+    ensures { result ≡ truth_over_orders beside.now found.now n expectation.now }
 {
     match expectation.when {
         When::Always | When::Sometimes | When::Never => truth_of_all(expectation, found),
-        When::InRounds => truth_in_rounds(rounds, &expectation.claim),
+        When::InRounds => truth_in_rounds(&beside.rounds, &expectation.claim),
+        When::AtAllTimes | When::Eventually => moment_truth(beside.moments.as_slice(), n),
     }
 }
 
 // Whether an expectation holds.
-fn holds(expectation: &Expectation, rounds: &Option<Closing>, found: &Found) -> bool
-    ensures { result ≡ holds rounds.now found.now expectation.now }
+fn holds(n: usize, expectation: &Expectation, beside: &Beside, found: &Found) -> bool
+    ensures { result ≡ holds beside.now found.now n expectation.now }
 {
-    matches!(truth_over_orders(expectation, rounds, found), Truth::Yes)
+    matches!(truth_over_orders(n, expectation, beside, found), Truth::Yes)
 }
 
 // Whether all that a text says holds.
-fn all_hold(expectations: &[Expectation], rounds: &Option<Closing>, found: &Found) -> bool
-    ensures { result ≡ list_all (holds rounds.now found.now) expectations.now }
+fn all_hold(expectations: &[Expectation], beside: &Beside, found: &Found) -> bool
+    ensures { result ≡ all_hold beside.now found.now 0 expectations.now }
 {
-    expectations
-        .iter()
-        .all(|expectation| holds(expectation, rounds, found))
+    for (n, expectation) in expectations.iter().enumerate() {
+        if !holds(n, expectation, beside, found) {
+            return false;
+        }
+    }
+    true
 }
 
 /// The exit status of what was found of a text: of one that expects nothing that of a script, by `status_of_found`; else 4 if the
 /// real machine differs from its plain machine, 0 if every order was tried and all that it expects holds, and 5 if not.
-pub fn status_of_text(expectations: &[Expectation], rounds: &Option<Closing>, found: &Found) -> u8
-    ensures { result ≡ status_of_text expectations.now rounds.now found.now }
+pub fn status_of_text(expectations: &[Expectation], beside: &Beside, found: &Found) -> u8
+    ensures { result ≡ status_of_text expectations.now beside.now found.now }
 {
     if expectations.is_empty() {
         return status_of_found(found);
@@ -147,7 +153,7 @@ pub fn status_of_text(expectations: &[Expectation], rounds: &Option<Closing>, fo
     if found.differs() {
         return 4;
     }
-    if found.is_complete() && all_hold(expectations, rounds, found) {
+    if found.is_complete() && all_hold(expectations, beside, found) {
         0
     } else {
         5

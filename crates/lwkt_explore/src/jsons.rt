@@ -1,8 +1,9 @@
 //! What is found, as one JSON object.
 ghost use Rattle.std.specs.Prelude.{◌≡◌, ◌++◌, IfOk, OnOk, string_bytes};
 ghost use Rattle.std.specs.Option.{option_copied};
-ghost use Rattle.lwkt_explore.specs.Jsons.{extent_json, items_json, count_json, outcome_json, lost_json, tried_json, bound_json, is_line_feed, feeds_in, line_of, witness_json, claim_begun, claim_json, finding_json};
+ghost use Rattle.lwkt_explore.specs.Jsons.{extent_json, items_json, count_json, outcome_json, lost_json, tried_json, bound_json, is_line_feed, feeds_in, line_of, witness_json, moment_json, claim_begun, claim_json, finding_json};
 
+use crate::besides::Beside;
 use crate::expectations::{deciding, truth_over_orders};
 use crate::extents::{Bound, Extent};
 use crate::forms::{Telling, count_at};
@@ -10,12 +11,13 @@ use crate::json_parts::{add_comma, add_turns, bool_word};
 use crate::json_values::add_closing;
 use crate::lines::kind_word;
 use crate::losses::Lost;
+use crate::moments::Moment;
 use crate::outcomes::{Outcome, Outcomes};
 use crate::searches::{Found, Tried};
+use crate::truths::Truth;
 use crate::verdicts::words_of;
 use lwkt_base::OutOfMemory;
 use lwkt_base::memory::{push_str, put};
-use lwkt_report::Closing;
 use lwkt_text::claims::Expectation;
 use std::alloc::Global;
 
@@ -141,18 +143,35 @@ fn add_witness(out: &mut String, witness: Option<&Outcome>) -> Result<(), OutOfM
     add_turns(out, outcome.order.as_slice())
 }
 
+// Appends the order to a state at which a claim fails, and the part that goes round behind it.
+fn add_moment(out: &mut String, moment: Option<&Moment>) -> Result<(), OutOfMemory>
+    ensures { OnOk result (string_bytes out.new ≡ string_bytes out.old ++ moment_json (option_copied moment.entry)) }
+{
+    let Some(moment) = moment else {
+        return Ok(());
+    };
+    if moment.truth != Truth::No {
+        return Ok(());
+    }
+    push_str(out, ",\"order\":")?;
+    add_turns(out, moment.order.as_slice())?;
+    push_str(out, ",\"repeats\":")?;
+    add_turns(out, moment.part.as_slice())
+}
+
 // Appends the line of what a text says, and whether it is so.
 fn begin_claim(
     out: &mut String,
     bytes: &[u8],
-    rounds: &Option<Closing>,
+    beside: &Beside,
     found: &Found,
+    n: usize,
     expectation: &Expectation,
 ) -> Result<(), OutOfMemory>
-    ensures { OnOk result (string_bytes out.new ≡ string_bytes out.old ++ claim_begun bytes.now rounds.now found.now expectation.now) }
+    ensures { OnOk result (string_bytes out.new ≡ string_bytes out.old ++ claim_begun bytes.now beside.now found.now n expectation.now) }
 {
     let line = line_of(bytes, expectation.at);
-    let words = words_of(truth_over_orders(expectation, rounds, found));
+    let words = words_of(truth_over_orders(n, expectation, beside, found));
     put(out, ("{\"line\":", line, ",\"verdict\":\"", words, "\""))
 }
 
@@ -160,15 +179,16 @@ fn begin_claim(
 fn add_claim(
     out: &mut String,
     bytes: &[u8],
-    rounds: &Option<Closing>,
+    beside: &Beside,
     found: &Found,
     n: usize,
     expectation: &Expectation,
 ) -> Result<(), OutOfMemory>
-    ensures { OnOk result (string_bytes out.new ≡ string_bytes out.old ++ claim_json bytes.now rounds.now found.now n expectation.now) }
+    ensures { OnOk result (string_bytes out.new ≡ string_bytes out.old ++ claim_json bytes.now beside.now found.now n expectation.now) }
 {
-    begin_claim(out, bytes, rounds, found, expectation)?;
+    begin_claim(out, bytes, beside, found, n, expectation)?;
     add_witness(out, deciding(expectation, found.outcomes.all.as_slice()))?;
+    add_moment(out, beside.moments.as_slice().get(n))?;
     push_str(out, "}")
 }
 
@@ -176,15 +196,15 @@ fn add_claim(
 fn add_claims(
     out: &mut String,
     bytes: &[u8],
-    rounds: &Option<Closing>,
+    beside: &Beside,
     found: &Found,
     expectations: &[Expectation],
 ) -> Result<(), OutOfMemory>
-    ensures { OnOk result (string_bytes out.new ≡ string_bytes out.old ++ items_json (claim_json bytes.now rounds.now found.now) expectations.now) }
+    ensures { OnOk result (string_bytes out.new ≡ string_bytes out.old ++ items_json (claim_json bytes.now beside.now found.now) expectations.now) }
 {
     for (n, expectation) in expectations.iter().enumerate() {
         add_comma(out, n)?;
-        add_claim(out, bytes, rounds, found, n, expectation)?;
+        add_claim(out, bytes, beside, found, n, expectation)?;
     }
     Ok(())
 }
@@ -223,10 +243,10 @@ pub fn json_of(
     telling: Option<&Telling<'_>>,
     bytes: &[u8],
     expectations: &[Expectation],
-    rounds: &Option<Closing>,
+    beside: &Beside,
     found: &Found,
 ) -> Result<String, OutOfMemory>
-    ensures { IfOk result (λ text. string_bytes text ≡ finding_json (option_copied telling.entry) bytes.now expectations.now rounds.now found.now) }
+    ensures { IfOk result (λ text. string_bytes text ≡ finding_json (option_copied telling.entry) bytes.now expectations.now beside.now found.now) }
 {
     let mut out = String::new(alloc);
     let outcomes = &found.outcomes;
@@ -244,7 +264,7 @@ pub fn json_of(
     add_tried(&mut out, found.tried)?;
     add_extent(&mut out, found)?;
     push_str(&mut out, ",\"claims\":[")?;
-    add_claims(&mut out, bytes, rounds, found, expectations)?;
+    add_claims(&mut out, bytes, beside, found, expectations)?;
     push_str(&mut out, "]}\n")?;
     Ok(out)
 }

@@ -1,10 +1,11 @@
 //! What a run came to by its expectations.
 ghost use Rattle.std.specs.Prelude.{◌≡◌};
 ghost use Rattle.std.specs.List.{list_any};
-ghost use Rattle.lwkt_explore.specs.Judgements.{is_unlawful, is_unmet, is_open, judgement_of, status_of_judgement};
+ghost use Rattle.lwkt_explore.specs.Judgements.{is_unlawful, is_no, is_left_open, truths_in_run, judgement_of, status_of_judgement};
 
 use crate::claims::all_ended;
 use crate::judging::truth_in_run;
+use crate::moments::Moment;
 use crate::truths::Truth;
 use lwkt_report::{Closing, Verdict};
 use lwkt_run::Mode;
@@ -46,49 +47,70 @@ pub(crate) fn is_unlawful(verdict: Verdict) -> bool
     matches!(verdict, Verdict::Unlawful { .. })
 }
 
-// Whether an expectation isn't so of a run.
-fn is_unmet(expectation: &Expectation, mode: Mode, outcome: &Closing) -> bool
-    ensures { result ≡ is_unmet mode outcome.now expectation.now }
+// Whether something isn't so.
+fn is_no(truth: Truth) -> bool
+    ensures { result ≡ is_no truth }
 {
-    matches!(truth_in_run(expectation, mode, outcome), Truth::No)
+    matches!(truth, Truth::No)
 }
 
-// Whether a run's report doesn't tell whether an expectation is so.
-fn is_open(expectation: &Expectation, mode: Mode, outcome: &Closing) -> bool
-    ensures { result ≡ is_open mode outcome.now expectation.now }
+// Whether it isn't told whether something is so.
+fn is_left_open(truth: Truth) -> bool
+    ensures { result ≡ is_left_open truth }
 {
-    matches!(truth_in_run(expectation, mode, outcome), Truth::Open)
+    matches!(truth, Truth::Open)
 }
 
-// Whether something that is said of an outcome isn't so.
-fn any_unmet(expectations: &[Expectation], mode: Mode, outcome: &Closing) -> bool
-    ensures { result ≡ list_any (is_unmet mode outcome.now) expectations.now }
+// Whether something that is said isn't so of a run.
+fn any_unmet(
+    expectations: &[Expectation],
+    mode: Mode,
+    outcome: &Closing,
+    moments: &[Moment],
+) -> bool
+    ensures { result ≡ list_any is_no (truths_in_run mode outcome.now moments.now 0 expectations.now) }
 {
-    expectations
-        .iter()
-        .any(|expectation| is_unmet(expectation, mode, outcome))
+    for (n, expectation) in expectations.iter().enumerate() {
+        if is_no(truth_in_run(n, expectation, mode, outcome, moments)) {
+            return true;
+        }
+    }
+    false
 }
 
-// Whether something that is said of an outcome is open.
-fn any_open(expectations: &[Expectation], mode: Mode, outcome: &Closing) -> bool
-    ensures { result ≡ list_any (is_open mode outcome.now) expectations.now }
+// Whether it isn't told of something that is said.
+fn any_open(
+    expectations: &[Expectation],
+    mode: Mode,
+    outcome: &Closing,
+    moments: &[Moment],
+) -> bool
+    ensures { result ≡ list_any is_left_open (truths_in_run mode outcome.now moments.now 0 expectations.now) }
 {
-    expectations
-        .iter()
-        .any(|expectation| is_open(expectation, mode, outcome))
+    for (n, expectation) in expectations.iter().enumerate() {
+        if is_left_open(truth_in_run(n, expectation, mode, outcome, moments)) {
+            return true;
+        }
+    }
+    false
 }
 
-/// What a run, driven so, with this one outcome came to.
-pub fn judgement_of(expectations: &[Expectation], mode: Mode, outcome: &Closing) -> Judgement
-    ensures { result ≡ judgement_of expectations.now mode outcome.now }
+/// What a run, driven so, with this one outcome came to; `moments` has what became of what is said of states in it.
+pub fn judgement_of(
+    expectations: &[Expectation],
+    mode: Mode,
+    outcome: &Closing,
+    moments: &[Moment],
+) -> Judgement
+    ensures { result ≡ judgement_of expectations.now mode outcome.now moments.now }
 {
     if is_unlawful(outcome.verdict) {
         return Judgement::Unlawful;
     }
-    if any_unmet(expectations, mode, outcome) {
+    if any_unmet(expectations, mode, outcome, moments) {
         return Judgement::Unmet;
     }
-    if any_open(expectations, mode, outcome) {
+    if any_open(expectations, mode, outcome, moments) {
         return Judgement::NotDecided;
     }
     if expectations.is_empty() && !all_ended(outcome) {

@@ -13,6 +13,7 @@
 #![tactic(auto)]
 
 mod accounts;
+mod besides;
 mod choices;
 mod claims;
 mod dives;
@@ -49,6 +50,7 @@ mod verdicts;
 mod watches;
 
 pub use accounts::{Account, account_of, told_account_of};
+pub use besides::{Beside, beside_of};
 pub use claims::truth_of;
 pub use expectations::{deciding, status_of_text, truth_over_orders};
 pub use extents::{Bound, Extent};
@@ -63,7 +65,6 @@ pub use lwkt_search::Seen;
 pub use moments::{Moment, moments};
 pub use outcomes::{Kind, Outcome, Outcomes};
 pub use readings::reading;
-pub use rounds::rounds_of;
 pub use samples::sample;
 pub use searches::{Bounds, Found, Method, Tried, explore};
 pub use statuses::status_of_found;

@@ -2,10 +2,11 @@
 ghost use Rattle.std.specs.Prelude.{◌≡◌};
 ghost use Rattle.lwkt_explore.specs.Verdicts.{truth_text};
 
+use crate::besides::Beside;
 use crate::expectations::{deciding, truth_over_orders};
 use crate::judging::truth_in_run;
 use crate::lines::order_text;
-use crate::outcomes::Outcome;
+use crate::moments::Moment;
 use crate::quotes::{add_quote, widths_of};
 use crate::searches::Found;
 use crate::truths::Truth;
@@ -58,14 +59,15 @@ pub(crate) fn verdicts_said(
     expectations: &[Expectation],
     mode: Mode,
     outcome: &Closing,
+    moments: &[Moment],
 ) -> Result<String, OutOfMemory> {
     let mut page = Page::new(alloc);
     let mut place = Place::FIRST;
-    for expectation in expectations {
+    for (n, expectation) in expectations.iter().enumerate() {
         place = place_from(bytes, place, expectation.at);
         add_head(&mut page, path, place);
         page.add(": ");
-        page.add(words_of(truth_in_run(expectation, mode, outcome)));
+        page.add(words_of(truth_in_run(n, expectation, mode, outcome, moments)));
         page.add("\n");
     }
     page.whole()
@@ -108,22 +110,27 @@ impl Counts {
     }
 }
 
-fn counts_in_run(expectations: &[Expectation], mode: Mode, outcome: &Closing) -> Counts {
+fn counts_in_run(
+    expectations: &[Expectation],
+    mode: Mode,
+    outcome: &Closing,
+    moments: &[Moment],
+) -> Counts {
     let mut counts = Counts::NONE;
-    for expectation in expectations {
-        counts = counts.with(truth_in_run(expectation, mode, outcome));
+    for (n, expectation) in expectations.iter().enumerate() {
+        counts = counts.with(truth_in_run(n, expectation, mode, outcome, moments));
     }
     counts
 }
 
 fn counts_over_orders(
     expectations: &[Expectation],
-    rounds: &Option<Closing>,
+    beside: &Beside,
     found: &Found,
 ) -> Counts {
     let mut counts = Counts::NONE;
-    for expectation in expectations {
-        counts = counts.with(truth_over_orders(expectation, rounds, found));
+    for (n, expectation) in expectations.iter().enumerate() {
+        counts = counts.with(truth_over_orders(n, expectation, beside, found));
     }
     counts
 }
@@ -139,28 +146,45 @@ pub(crate) fn verdicts_quoted(
     expectations: &[Expectation],
     mode: Mode,
     outcome: &Closing,
+    moments: &[Moment],
 ) -> Result<String, OutOfMemory> {
     let mut page = Page::new(alloc);
     let mut place = Place::FIRST;
     if expectations.is_empty() {
         return page.whole();
     }
-    add_summary(&mut page, counts_in_run(expectations, mode, outcome));
+    add_summary(&mut page, counts_in_run(expectations, mode, outcome, moments));
     let widths = widths_of(bytes, expectations);
-    for expectation in expectations {
+    for (n, expectation) in expectations.iter().enumerate() {
         place = place_from(bytes, place, expectation.at);
         add_quote(&mut page, bytes, widths, place, expectation);
-        add_words(&mut page, paints, truth_in_run(expectation, mode, outcome));
+        let truth = truth_in_run(n, expectation, mode, outcome, moments);
+        add_words(&mut page, paints, truth);
         page.add("\n");
     }
     page.whole()
 }
 
-// The order of an outcome that decides an expectation.
-fn add_witness(alloc: Global, page: &mut Page, outcome: &Outcome) -> Result<(), OutOfMemory> {
-    let order = order_text(alloc, outcome.order.as_slice())?;
+// The order that decides an expectation.
+fn add_witness(alloc: Global, page: &mut Page, order: &[u8]) -> Result<(), OutOfMemory> {
+    let order = order_text(alloc, order)?;
     page.add(", order");
     page.add(order.as_str());
+    Ok(())
+}
+
+// The order to a state at which a claim fails, or behind which it never comes, and the part that repeats then.
+fn add_moment(alloc: Global, page: &mut Page, moment: &Moment) -> Result<(), OutOfMemory> {
+    if moment.truth != Truth::No {
+        return Ok(());
+    }
+    add_witness(alloc, page, moment.order.as_slice())?;
+    if moment.part.is_empty() {
+        return Ok(());
+    }
+    let part = order_text(alloc, moment.part.as_slice())?;
+    page.add(", then for ever");
+    page.add(part.as_str());
     Ok(())
 }
 
@@ -169,13 +193,17 @@ fn add_truth(
     alloc: Global,
     page: &mut Page,
     paints: bool,
+    n: usize,
     expectation: &Expectation,
-    rounds: &Option<Closing>,
+    beside: &Beside,
     found: &Found,
 ) -> Result<(), OutOfMemory> {
-    add_words(page, paints, truth_over_orders(expectation, rounds, found));
+    add_words(page, paints, truth_over_orders(n, expectation, beside, found));
     if let Some(outcome) = deciding(expectation, found.outcomes.all.as_slice()) {
-        add_witness(alloc, page, outcome)?;
+        add_witness(alloc, page, outcome.order.as_slice())?;
+    }
+    if let Some(moment) = beside.moments.as_slice().get(n) {
+        add_moment(alloc, page, moment)?;
     }
     page.add("\n");
     Ok(())
@@ -186,13 +214,14 @@ fn add_verdict(
     alloc: Global,
     page: &mut Page,
     place: Place,
+    n: usize,
     expectation: &Expectation,
-    rounds: &Option<Closing>,
+    beside: &Beside,
     found: &Found,
 ) -> Result<(), OutOfMemory> {
     add_head(page, None, place);
     page.add(": ");
-    add_truth(alloc, page, false, expectation, rounds, found)
+    add_truth(alloc, page, false, n, expectation, beside, found)
 }
 
 /// A line for each expectation of a text, by its line there, counted from 1: `LINE: holds` or `LINE: doesn't hold`, and the order
@@ -204,14 +233,14 @@ pub fn verdicts_of(
     alloc: Global,
     bytes: &[u8],
     expectations: &[Expectation],
-    rounds: &Option<Closing>,
+    beside: &Beside,
     found: &Found,
 ) -> Result<String, OutOfMemory> {
     let mut page = Page::new(alloc);
     let mut place = Place::FIRST;
-    for expectation in expectations {
+    for (n, expectation) in expectations.iter().enumerate() {
         place = place_from(bytes, place, expectation.at);
-        add_verdict(alloc, &mut page, place, expectation, rounds, found)?;
+        add_verdict(alloc, &mut page, place, n, expectation, beside, found)?;
     }
     page.whole()
 }
@@ -224,7 +253,7 @@ pub fn quoted_verdicts_of(
     paints: bool,
     bytes: &[u8],
     expectations: &[Expectation],
-    rounds: &Option<Closing>,
+    beside: &Beside,
     found: &Found,
 ) -> Result<String, OutOfMemory> {
     let mut page = Page::new(alloc);
@@ -232,12 +261,12 @@ pub fn quoted_verdicts_of(
     if expectations.is_empty() {
         return page.whole();
     }
-    add_summary(&mut page, counts_over_orders(expectations, rounds, found));
+    add_summary(&mut page, counts_over_orders(expectations, beside, found));
     let widths = widths_of(bytes, expectations);
-    for expectation in expectations {
+    for (n, expectation) in expectations.iter().enumerate() {
         place = place_from(bytes, place, expectation.at);
         add_quote(&mut page, bytes, widths, place, expectation);
-        add_truth(alloc, &mut page, paints, expectation, rounds, found)?;
+        add_truth(alloc, &mut page, paints, n, expectation, beside, found)?;
     }
     page.whole()
 }

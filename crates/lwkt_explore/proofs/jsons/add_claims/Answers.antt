@@ -12,7 +12,7 @@ loop-n-preserved c =
     let n = c.loop-n.n in
     let one = c.index-expectations-n.result in
     let rest = drop (n + 1) all in
-    let json = claim_json c.args.bytes.now c.args.rounds.now c.args.found.now in
+    let json = claim_json c.args.bytes.now c.args.beside.now c.args.found.now in
     let below : n < length all = c.loop-n-test.true in
     let here : drop n all ≡ one ∷ rest = drop_more all n one below ∙ ap (λ (e : Expectation). e ∷ rest) (sym c.index-expectations-n.is) in
     items_on json (string_bytes c.loop-n.out) (string_bytes c.add_comma.new.out) (string_bytes c.add_claim.new.out) (string_bytes c.args.out.now ++ numbered_lines (item_json json) 0 all) n (n + 1) one (drop n all) rest refl here c.in_ok-add_comma.ensures c.in_ok-add_claim.ensures c.loop-n.invariant

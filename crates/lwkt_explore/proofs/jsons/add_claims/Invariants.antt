@@ -5,4 +5,4 @@ use Rattle.lwkt_explore.proofs.jsons.add_claims.Given as goal
 
 -- what is written, with the items to come, is all of them
 abbrev pub invariant-loop-n : goal.invariant-loop-n
-invariant-loop-n l = string_bytes l.out ++ numbered_lines (item_json (claim_json l.bytes l.rounds l.found)) l.n (drop l.n l.expectations) ≡ string_bytes l.initial.out ++ numbered_lines (item_json (claim_json l.bytes l.rounds l.found)) 0 l.expectations
+invariant-loop-n l = string_bytes l.out ++ numbered_lines (item_json (claim_json l.bytes l.beside l.found)) l.n (drop l.n l.expectations) ≡ string_bytes l.initial.out ++ numbered_lines (item_json (claim_json l.bytes l.beside l.found)) 0 l.expectations
