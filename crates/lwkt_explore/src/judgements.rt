@@ -79,12 +79,7 @@ fn any_unmet(
 }
 
 // Whether it isn't told of something that is said.
-fn any_open(
-    expectations: &[Expectation],
-    mode: Mode,
-    outcome: &Closing,
-    moments: &[Moment],
-) -> bool
+fn any_open(expectations: &[Expectation], mode: Mode, outcome: &Closing, moments: &[Moment]) -> bool
     ensures { result ≡ list_any is_left_open (truths_in_run mode outcome.now moments.now 0 expectations.now) }
 {
     for (n, expectation) in expectations.iter().enumerate() {

@@ -50,8 +50,8 @@ impl<'s, 'a> Judge<Explorer<'s>> for Stated<'a> {
     }
 }
 
-// What became of a claim, without an order.
-fn plainly(alloc: Global, truth: Truth, is_whole: bool) -> Moment
+/// What became of a claim, without an order.
+pub(crate) fn plainly(alloc: Global, truth: Truth, is_whole: bool) -> Moment
     ensures { result.truth ≡ truth }
 {
     Moment {
@@ -157,11 +157,13 @@ fn moments_of(
     Ok(moments)
 }
 
-// Whether something is said of states between two turns.
-fn asks_times(expectations: &[Expectation]) -> bool
+/// Whether something is said of states between two turns.
+pub(crate) fn asks_times(expectations: &[Expectation]) -> bool
     ensures { result ≡ asks_times expectations.now }
 {
-    expectations.iter().any(|expectation| is_timed(expectation.when))
+    expectations
+        .iter()
+        .any(|expectation| is_timed(expectation.when))
 }
 
 /// What becomes over all orders of each thing that a text says of states between two turns, in the order of the text; nothing if it says

@@ -123,11 +123,7 @@ fn counts_in_run(
     counts
 }
 
-fn counts_over_orders(
-    expectations: &[Expectation],
-    beside: &Beside,
-    found: &Found,
-) -> Counts {
+fn counts_over_orders(expectations: &[Expectation], beside: &Beside, found: &Found) -> Counts {
     let mut counts = Counts::NONE;
     for (n, expectation) in expectations.iter().enumerate() {
         counts = counts.with(truth_over_orders(n, expectation, beside, found));
@@ -153,7 +149,10 @@ pub(crate) fn verdicts_quoted(
     if expectations.is_empty() {
         return page.whole();
     }
-    add_summary(&mut page, counts_in_run(expectations, mode, outcome, moments));
+    add_summary(
+        &mut page,
+        counts_in_run(expectations, mode, outcome, moments),
+    );
     let widths = widths_of(bytes, expectations);
     for (n, expectation) in expectations.iter().enumerate() {
         place = place_from(bytes, place, expectation.at);
@@ -198,7 +197,11 @@ fn add_truth(
     beside: &Beside,
     found: &Found,
 ) -> Result<(), OutOfMemory> {
-    add_words(page, paints, truth_over_orders(n, expectation, beside, found));
+    add_words(
+        page,
+        paints,
+        truth_over_orders(n, expectation, beside, found),
+    );
     if let Some(outcome) = deciding(expectation, found.outcomes.all.as_slice()) {
         add_witness(alloc, page, outcome.order.as_slice())?;
     }
