@@ -8,6 +8,8 @@
 #![tactic(auto)]
 
 pub mod codes;
+mod fairness;
+mod finders;
 pub mod indexes;
 mod links;
 mod losses;
@@ -15,11 +17,14 @@ mod machines;
 mod refusals;
 mod rows;
 mod searches;
+mod times;
 
 pub use codes::Codes;
+pub use fairness::{Eventually, Lasso, holds_eventually};
 pub use links::Links;
 pub use losses::lost_states;
 pub use machines::{Machine, Seen, Watch};
 pub use refusals::{MOST_NUMBERS, Refusal};
 pub use rows::LAST;
 pub use searches::{Bound, Found, Growth, Layer, Outcome, Task};
+pub use times::{Judge, at_all_times};
