@@ -1,4 +1,5 @@
 use Rattle.std.proofs.Common.{◌≡◌, ℕ, zero, suc, ◌+◌, ◌-◌, ◌*◌, ◌/◌, ◌%◌, ◌<◌, ◌≤◌, ◌⊎◌, inl, inr, List, [], ◌∷◌, ◌++◌, length, take, arith, ap, subst, sym, refl, ◌∙◌, slice_index_or, Bool, true, false, IsTrue, IsFalse, true≢false}
+use Rattle.std.specs.Prelude.{◌==◌}
 use Rattle.std.proofs.Math.Nat.{add-zero, zero-mul, suc-mul, le-mul_of_pos_right}
 use Rattle.std.proofs.Math.Seq.{take-length}
 use Rattle.std.proofs.lemmas.Nat.{div-add-mod', mod-mul-add, mod_below}
@@ -100,10 +101,10 @@ settle : {S : Type 0} (start : S) (kept : List S) (holds : S → Bool) (ranks : 
 settle {S} start kept holds ranks state place most there is sinks =
     let H : S → Type 0 = λ s. IsTrue (holds s) in
     elim sinks [
-      | inl yes ↦ inl (subst H is yes)
+      | inl so ↦ inl (subst H is so)
       | inr low ↦ elim (is_or_not (holds (slice_index_or kept place start))) [
-        | inl yes ↦ inl (subst H is yes)
-        | inr no ↦ inr (record { place = place; there = there; is = is; fails = no; low = low })
+        | inl so ↦ inl (subst H is so)
+        | inr not_so ↦ inr (record { place = place; there = there; is = is; fails = not_so; low = low })
       ]
     ]
 
@@ -118,7 +119,7 @@ one_on {S} turn start cpus kept holds ranks movers state most cpu ranked below h
     let s : Sinks turn start kept holds ranks here.place cpu (slice_index_or ranks here.place 0 + 1) = r.each cpu below in
     let T : S → Type 0 = λ x. slice_index_or kept s.next start ≡ turn x cpu in
     let is : slice_index_or kept s.next start ≡ turn state cpu = subst T here.is s.leads.leads in
-    settle start kept holds ranks (turn state cpu) s.next most s.leads.there is (elim s.sinks [ inl yes ↦ inl yes | inr low ↦ let least : slice_index_or ranks here.place 0 ≤ most = here.low in inr (omega arith) ])
+    settle start kept holds ranks (turn state cpu) s.next most s.leads.there is (elim s.sinks [ inl so ↦ inl so | inr low ↦ let least : slice_index_or ranks here.place 0 ≤ most = here.low in inr (omega arith) ])
 
 -- what it is to hold at last, or to stand at a moment with a rank of at most this
 pub LastOrAt : {S : Type 0} → (S → ℕ → S) → S → List S → (S → Bool) → List ℕ → S → (ℕ → ℕ) → ℕ → ℕ → Type 0
@@ -138,7 +139,7 @@ turns_on {S} turn start cpus kept holds ranks movers state order n most (suc d) 
     elim was [
       | inl last ↦ inl last
       | inr at ↦ elim (one_on turn start cpus kept holds ranks movers (state_at turn state order (n + d)) most (order (n + d)) ranked (endless (n + d)) at) [
-        | inl yes ↦ inl (suc (n + d), yes)
+        | inl so ↦ inl (suc (n + d), so)
         | inr on ↦ inr (subst A e on)
       ]
     ]
@@ -150,11 +151,11 @@ fallen {S} turn start kept holds ranks state order r n next limit lower small th
     let rank : ℕ = slice_index_or ranks next 0 in
     let same : rank ≤ rank = omega arith in
     elim sinks [
-      | inl yes ↦ (n, subst H is yes)
+      | inl so ↦ (n, subst H is so)
       | inr low ↦
           let less : rank < r = omega arith in
           elim (settle start kept holds ranks (state_at turn state order n) next rank there is (inr same)) [
-            | inl yes ↦ (n, yes)
+            | inl so ↦ (n, so)
             | inr at ↦ lower n rank less at
           ]
     ]
@@ -215,7 +216,7 @@ holds_by_ranks {S} turn start cpus kept holds ranks movers closed ranked first b
     let same : rank ≤ rank = omega arith in
     let more : rank < suc rank = omega arith in
     elim (settle start kept holds ranks state k.place rank k.there k.is (inr same)) [
-      | inl yes ↦ (0, yes)
+      | inl so ↦ (0, so)
       | inr at ↦ falls turn start cpus kept holds ranks movers state order (suc rank) 0 rank ranked endless fair more at
     ]
 
@@ -224,6 +225,11 @@ holds_by_ranks {S} turn start cpus kept holds ranks movers closed ranked first b
 run_append : {S : Type 0} (turn : S → ℕ → S) (state : S) (order : List ℕ) (cpu : ℕ) → run turn state (order ++ cpu ∷ []) ≡ turn (run turn state order) cpu
 run_append turn state [] cpu = refl
 run_append turn state (c ∷ order) cpu = run_append turn (turn state c) order cpu
+
+-- a list that is seen not to be empty has some
+pub some_of : (b : Bool) (n : ℕ) → b ≡ (n == 0) → b ≡ false → 0 < n
+some_of b zero is not_so = absurd (let e : true ≡ false = sym is ∙ not_so in cc)
+some_of b (suc n) is not_so = omega arith
 
 -- each number of a list is below a limit
 pub below_of : (part : List ℕ) (cpus : ℕ) → ((k : ℕ) → k < length part → slice_index_or part k 0 < cpus) → IsOrder cpus part

@@ -198,7 +198,7 @@ impl Tarjan {
             self.leave(place as usize);
             return Ok(());
         }
-        let cpu_after = cpu + 1;
+        let cpu_after = cpu.saturating_add(1);
         push(
             &mut self.way,
             Step {

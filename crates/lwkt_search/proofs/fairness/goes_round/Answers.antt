@@ -1,7 +1,7 @@
 use Rattle.std.proofs.Common.{◌≡◌, ℕ, ◌+◌, ◌<◌, ◌∙◌, List, length, take, arith, ap, subst, sym, refl, below_more, false, IsFalse, slice_index_or}
 use Rattle.std.proofs.Math.Seq.{take-length}
 use Rattle.lwkt_search.specs.Runs.{run}
-use Rattle.lwkt_search.proofs.FairLemmas.{below_of, closed_same, run_more}
+use Rattle.lwkt_search.proofs.FairLemmas.{below_of, closed_same, run_more, some_of}
 use Rattle.lwkt_search.proofs.fairness.goes_round.Goals as goal
 
 pub holds-requires-clause-there : goal.holds-requires-clause-there
@@ -25,7 +25,7 @@ returns-clause-round g c = λ yes.
     let i = c.loop-cpu.cpu-index in
     let all : i ≡ length part = omega arith in
     let home : c.loop-cpu.at ≡ c.args.from = omega arith in
-    let some : 0 < length part = omega arith in
+    let some : 0 < length part = some_of c.is_empty.result (length part) c.is_empty.ensures c.if-is_empty.false in
     let N : ℕ → Type 0 = λ n. slice_index_or old n start ≡ run turn state (take i part) in
     let K : ℕ → Type 0 = λ n. run turn state part ≡ run turn state (take n part) in
     let whole : run turn state part ≡ run turn state (take i part) = subst K (sym all) (sym (ap (run turn state) (take-length part))) in

@@ -2,10 +2,10 @@ use Rattle.std.proofs.Common.{◌∙◌}
 use Rattle.lwkt_search.proofs.FairLemmas.{closed_same, count_same}
 use Rattle.lwkt_search.proofs.finders.Tarjan.walk.Goals as goal
 
-pub loop-_step-preserved : goal.loop-_step-preserved
-loop-_step-preserved g c = record {
+pub loop-step-preserved : goal.loop-step-preserved
+loop-step-preserved g c = record {
   sound = c.in_ok-step.ensures.sound;
-  same = c.in_ok-step.ensures.same ∙ c.loop-_step.invariant.same;
-  closed = closed_same c.loop-_step.invariant.closed c.in_ok-step.ensures.same;
-  count = count_same c.loop-_step.invariant.count c.in_ok-step.ensures.same;
+  same = c.in_ok-step.ensures.same ∙ c.loop-step.invariant.same;
+  closed = closed_same c.loop-step.invariant.closed c.in_ok-step.ensures.same;
+  count = count_same c.loop-step.invariant.count c.in_ok-step.ensures.same;
 }
