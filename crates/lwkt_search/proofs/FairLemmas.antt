@@ -1,4 +1,4 @@
-use Rattle.std.proofs.Common.{◌≡◌, ℕ, zero, suc, ◌+◌, ◌-◌, ◌*◌, ◌/◌, ◌%◌, ◌<◌, ◌≤◌, ◌⊎◌, inl, inr, List, [], ◌∷◌, ◌++◌, length, take, arith, ap, subst, sym, refl, ◌∙◌, slice_index_or, Bool, true, false, IsTrue, IsFalse, true≢false}
+use Rattle.std.proofs.Common.{◌≡◌, ℕ, zero, suc, ◌+◌, ◌-◌, ◌*◌, ◌/◌, ◌%◌, ◌<◌, ◌≤◌, ◌⊎◌, inl, inr, List, [], ◌∷◌, ◌++◌, length, take, arith, ap, subst, sym, refl, ◌∙◌, slice_index_or, Bool, true, false, IsTrue, IsFalse}
 use Rattle.std.specs.Prelude.{◌==◌}
 use Rattle.std.proofs.Math.Nat.{add-zero, zero-mul, suc-mul, le-mul_of_pos_right}
 use Rattle.std.proofs.Math.Seq.{take-length}
@@ -7,8 +7,8 @@ use Rattle.std.proofs.lemmas.List.{get_or_default, take_more}
 use Rattle.std.proofs.lemmas.List.Elements.{All-head, All-tail}
 use Rattle.lwkt_search.specs.Links.{Link}
 use Rattle.lwkt_search.specs.Runs.{run, IsOrder}
-use Rattle.lwkt_search.specs.Graphs.{Node, node_at, nodes_of, IsFullOf, IsGrown, IsTurned, IsSeen, IsNew, IsTried}
-use Rattle.lwkt_search.specs.Fairness.{state_at, IsEndless, IsFairTo, IsFair, HoldsAtLast, Avoids, HoldsEventually, repeated, IsAvoided, IsMove, IsClosed, Sinks, IsRanked, GoesRound, IsServed}
+use Rattle.lwkt_search.specs.Graphs.{Node, node_at, nodes_of, IsFullOf, IsGrown, IsTurned, IsTried}
+use Rattle.lwkt_search.specs.Fairness.{state_at, IsEndless, IsFair, HoldsAtLast, Avoids, HoldsEventually, repeated, IsAvoided, IsMove, IsClosed, Sinks, IsRanked, GoesRound, IsServed}
 use Rattle.lwkt_search.proofs.NodeLemmas.{nodes_long, node_state}
 use Rattle.lwkt_search.proofs.TimeLemmas.{full_grown}
 

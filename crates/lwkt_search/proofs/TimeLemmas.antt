@@ -1,6 +1,6 @@
-use Rattle.std.proofs.Common.{◌≡◌, ℕ, ◌+◌, ◌<◌, ◌≤◌, ◌⊎◌, inl, inr, List, length, arith, subst, sym, ◌∙◌, slice_index_or, Bool, true, IsTrue, IsFalse, true≢false}
+use Rattle.std.proofs.Common.{◌≡◌, ℕ, ◌<◌, ◌≤◌, ◌⊎◌, inl, inr, List, length, arith, subst, sym, ◌∙◌, slice_index_or, Bool, IsTrue, IsFalse, true≢false}
 use Rattle.lwkt_search.specs.Links.{Link}
-use Rattle.lwkt_search.specs.Runs.{Told, run, IsOrder}
+use Rattle.lwkt_search.specs.Runs.{Told, run}
 use Rattle.lwkt_search.specs.Graphs.{Node, node_at, nodes_of, IsFullOf, IsGrown, IsTold}
 use Rattle.lwkt_search.specs.Times.{HoldsAlways, HoldsBefore, IsFirstFailing, IsSoonest}
 use Rattle.lwkt_search.proofs.NodeLemmas.{nodes_long, node_state}

@@ -1,4 +1,4 @@
-use Rattle.std.proofs.Common.{◌≡◌, ℕ, ◌<◌, ◌∙◌, List, length, arith, ap, subst, refl, below_more}
+use Rattle.std.proofs.Common.{◌≡◌, ℕ, ◌∙◌, List, length, arith, ap, subst, refl, below_more}
 use Rattle.lwkt_search.specs.Fairness.{Sinks}
 use Rattle.lwkt_search.proofs.FairLemmas.{closed_same}
 use Rattle.lwkt_search.proofs.fairness.all_sink.Goals as goal

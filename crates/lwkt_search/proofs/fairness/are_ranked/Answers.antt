@@ -1,4 +1,4 @@
-use Rattle.std.proofs.Common.{◌≡◌, ℕ, ◌<◌, ◌∙◌, List, length, arith, ap, subst, refl, below_more, IsFalse, slice_index_or}
+use Rattle.std.proofs.Common.{◌≡◌, ℕ, ◌∙◌, List, length, arith, ap, subst, below_more, IsFalse, slice_index_or}
 use Rattle.lwkt_search.specs.Fairness.{IsRanked}
 use Rattle.lwkt_search.proofs.FairLemmas.{closed_same}
 use Rattle.lwkt_search.proofs.fairness.are_ranked.Goals as goal

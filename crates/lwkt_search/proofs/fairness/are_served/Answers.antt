@@ -1,4 +1,4 @@
-use Rattle.std.proofs.Common.{◌≡◌, ℕ, ◌<◌, ◌∙◌, List, length, arith, ap, subst, refl, below_more, slice_index_or}
+use Rattle.std.proofs.Common.{◌≡◌, ℕ, ◌∙◌, List, length, arith, ap, subst, refl, below_more, slice_index_or}
 use Rattle.lwkt_search.specs.Fairness.{IsServed}
 use Rattle.lwkt_search.proofs.FairLemmas.{closed_same}
 use Rattle.lwkt_search.proofs.fairness.are_served.Goals as goal

@@ -1,4 +1,4 @@
-use Rattle.std.proofs.Common.{◌≡◌, ℕ, ◌+◌, ◌<◌, ◌∙◌, List, length, take, arith, ap, subst, sym, refl, below_more, false, IsFalse, slice_index_or}
+use Rattle.std.proofs.Common.{◌≡◌, ℕ, ◌<◌, ◌∙◌, List, length, take, arith, ap, subst, sym, below_more, IsFalse, slice_index_or}
 use Rattle.std.proofs.Math.Seq.{take-length}
 use Rattle.lwkt_search.specs.Runs.{run}
 use Rattle.lwkt_search.proofs.FairLemmas.{below_of, closed_same, run_more, some_of}

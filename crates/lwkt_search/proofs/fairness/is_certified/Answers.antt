@@ -1,5 +1,4 @@
-use Rattle.std.proofs.Common.{◌≡◌, ℕ, ◌<◌, List, length, arith, subst, sym, ◌∙◌, IsFalse, slice_index_or}
-use Rattle.lwkt_search.specs.Fairness.{IsRanked}
+use Rattle.std.proofs.Common.{◌≡◌, ◌<◌, length, arith}
 use Rattle.lwkt_search.proofs.FairLemmas.{holds_by_ranks}
 use Rattle.lwkt_search.proofs.fairness.is_certified.Goals as goal
 

@@ -1,5 +1,4 @@
-use Rattle.std.proofs.Common.{◌≡◌, ◌+◌, ◌<◌, ◌∙◌, ℕ, List, length, arith, ap, subst, sym, true≢false}
-use Rattle.lwkt_search.specs.Fairness.{Sinks}
+use Rattle.std.proofs.Common.{◌≡◌, ◌∙◌, length, arith, ap, sym, true≢false}
 use Rattle.lwkt_search.proofs.FairLemmas.{closed_same}
 use Rattle.lwkt_search.proofs.fairness.is_ranked.Goals as goal
 

@@ -1,4 +1,4 @@
-use Rattle.std.proofs.Common.{◌≡◌, ℕ, ◌+◌, ◌<◌, ◌∙◌, List, length, take, arith, ap, subst, sym, inl, inr, slice_index_or}
+use Rattle.std.proofs.Common.{◌≡◌, ◌<◌, ◌∙◌, List, length, take, arith, ap, subst, sym, inl, inr, slice_index_or}
 use Rattle.lwkt_search.specs.Runs.{run}
 use Rattle.lwkt_search.proofs.FairLemmas.{closed_same, run_more}
 use Rattle.lwkt_search.proofs.fairness.is_served.Goals as goal

@@ -1,4 +1,4 @@
-use Rattle.std.proofs.Common.{◌≡◌, ◌<◌, ◌≤◌, ◌∙◌, length, arith, sym}
+use Rattle.std.proofs.Common.{◌<◌, ◌≤◌, ◌∙◌, length, arith}
 use Rattle.lwkt_search.proofs.FairLemmas.{avoided_by}
 use Rattle.lwkt_search.proofs.NodeLemmas.{node_state}
 use Rattle.lwkt_search.proofs.fairness.lasso_of.Goals as goal

@@ -1,4 +1,4 @@
-use Rattle.std.proofs.Common.{◌≡◌, ◌<◌, ◌∙◌, List, length, arith, ap, subst, sym, inl, inr, true, IsTrue, slice_index_or}
+use Rattle.std.proofs.Common.{◌≡◌, ◌∙◌, List, length, arith, ap, subst, sym, inl, inr, true, IsTrue, slice_index_or}
 use Rattle.lwkt_search.proofs.fairness.sinks.Goals as goal
 
 pub holds-requires-clause-there : goal.holds-requires-clause-there

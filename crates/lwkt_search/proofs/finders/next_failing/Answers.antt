@@ -1,4 +1,4 @@
-use Rattle.std.proofs.Common.{◌≡◌, ◌<◌, length, ap, arith}
+use Rattle.std.proofs.Common.{◌≡◌, length, ap, arith}
 use Rattle.lwkt_search.proofs.finders.next_failing.Goals as goal
 
 pub holds-requires-clause-there : goal.holds-requires-clause-there

@@ -1,4 +1,3 @@
-use Rattle.std.proofs.Common.{◌≡◌}
 use Rattle.lwkt_search.specs.Times.{HoldsBefore}
 use Rattle.lwkt_search.proofs.times.first_failing.Given as goal
 
