@@ -1,12 +1,8 @@
 -- What is known of a script beside the outcomes of its orders (own).
-use Rattle.std.specs.Prelude.{ℕ, List, slice_get}
-use Rattle.std.specs.Option.{option_map_or}
+use Rattle.std.specs.Prelude.{List}
 use Rattle.lwkt_script.specs.declared.scripts.Script.{Script}
 use Rattle.lwkt_text.specs.declared.claims.Expectation.{Expectation}
 use Rattle.lwkt_explore.specs.declared.besides.Beside.{Beside}
-use Rattle.lwkt_explore.specs.declared.moments.Moment.{Moment}
-use Rattle.lwkt_explore.specs.declared.truths.Truth.{Truth}
-use Rattle.lwkt_explore.specs.declared.truths.Truth.TheVariants.{Open}
 use Rattle.lwkt_explore.specs.Moments.{AreMoments}
 use Rattle.lwkt_explore.specs.Rounds.{AreRounds}
 
@@ -14,7 +10,3 @@ use Rattle.lwkt_explore.specs.Rounds.{AreRounds}
 pub record AreBeside (script : Script) (expectations : List Expectation) (beside : Beside) : Type 0 where
   pub rounds : AreRounds script expectations beside.rounds
   pub moments : AreMoments script expectations beside.moments.items
-
--- whether what is said of states is so, by what became of it
-abbrev pub moment_truth : List Moment → ℕ → Truth
-moment_truth moments n = option_map_or (λ (m : Moment). m.truth) (slice_get moments n) Open

@@ -11,7 +11,7 @@ use Rattle.lwkt_explore.specs.declared.outcomes.Kind.{Kind}
 use Rattle.lwkt_explore.specs.declared.outcomes.Kind.TheVariants.{Ended, Stuck, Cut}
 use Rattle.lwkt_explore.specs.declared.outcomes.Outcome.{Outcome}
 use Rattle.lwkt_explore.specs.declared.searches.Found.{Found}
-use Rattle.lwkt_explore.specs.Besides.{moment_truth}
+use Rattle.lwkt_explore.specs.Moments.{moment_truth}
 use Rattle.lwkt_explore.specs.Claims.{truth_of, is_yes}
 use Rattle.lwkt_explore.specs.Extents.{differs, is_complete}
 use Rattle.lwkt_explore.specs.Judgements.{is_no, is_left_open}

@@ -9,7 +9,7 @@ use Rattle.lwkt_text.specs.declared.claims.When.TheVariants.{Always, Sometimes, 
 use Rattle.lwkt_explore.specs.declared.moments.Moment.{Moment}
 use Rattle.lwkt_explore.specs.declared.truths.Truth.{Truth}
 use Rattle.lwkt_explore.specs.declared.truths.Truth.TheVariants.{Open}
-use Rattle.lwkt_explore.specs.Besides.{moment_truth}
+use Rattle.lwkt_explore.specs.Moments.{moment_truth}
 use Rattle.lwkt_explore.specs.Claims.{truth_of}
 use Rattle.lwkt_explore.specs.Truths.{opposite}
 

@@ -1,6 +1,7 @@
 -- What is said of states between two turns, and what became of it over all orders (own).
-use Rattle.std.specs.Prelude.{◌≡◌, ℕ, ◌≤◌, List, length, Bool, ⊤, IsTrue, slice_get, Some, None}
+use Rattle.std.specs.Prelude.{◌≡◌, ℕ, List, length, Bool, ⊤, IsTrue, slice_get, Some, None}
 use Rattle.std.specs.List.{list_any}
+use Rattle.std.specs.Option.{option_map_or}
 use Rattle.lwkt_plain.specs.declared.states.Plain.{Plain}
 use Rattle.lwkt_plain.specs.declared.stores.Store.{Store}
 use Rattle.lwkt_plain.specs.Endings.{HasEnded}
@@ -25,7 +26,7 @@ use Rattle.lwkt_explore.specs.Standings.{is_so_at}
 -- what a search of a script's plain machine has noted of the states that it found
 pub record IsGrowing (script : Script) (cpus : ℕ) (growth : Growth Store) : Type 0 where
   pub store : IsStore growth.store
-  pub room : length growth.links ≤ length (kept growth.store)
+  pub noted : length growth.links ≡ length (kept growth.store)
   pub grown : IsGrown (form_turn script) (HasEnded script) (opened script) cpus (nodes_of (kept growth.store) growth.links) growth.onward.items growth.is_whole growth.gone_on
   pub finished : growth.met ≡ None → growth.gone_on ≡ length growth.links
   pub whole : IsTrue growth.is_whole → growth.met ≡ None
@@ -69,3 +70,7 @@ IsMoment script e m = TellsWhen script e.claim m e.when
 -- what became of each of these, in their order
 abbrev pub AreMoments : Script → List Expectation → List Moment → Type 0
 AreMoments script expectations moments = (n : ℕ) (e : Expectation) (m : Moment) → slice_get expectations n ≡ Some e → slice_get moments n ≡ Some m → IsMoment script e m
+
+-- whether what is said of states is so, by what became of it
+abbrev pub moment_truth : List Moment → ℕ → Truth
+moment_truth moments n = option_map_or (λ (m : Moment). m.truth) (slice_get moments n) Open

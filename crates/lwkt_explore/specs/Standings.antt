@@ -1,5 +1,5 @@
 -- What is said of a state between two turns, and whether it is so there (own).
-use Rattle.std.specs.Prelude.{ℕ, ◌+◌, ◌==◌, ◌&&◌, not, List, [], ◌∷◌, slice_get, Bool, true, false, cond, Option, Some, None, option_map, option_and_then}
+use Rattle.std.specs.Prelude.{ℕ, ◌+◌, ◌==◌, ◌&&◌, not, List, [], ◌∷◌, slice_get, Bool, true, false, if◌then◌else◌, Option, Some, None, option_map, option_and_then}
 use Rattle.std.specs.List.{list_any}
 use Rattle.std.specs.Option.{option_map_or}
 use Rattle.lwkt_base.specs.declared.message_words.MsgState.{MsgState}
@@ -40,12 +40,12 @@ is_the_one None k = false
 is_the_one (Some running) k = running == k
 
 -- how a thread of a phase stands, if it runs or not
-abbrev pub standing : Bool → Phase → ThreadState
-standing runs phases.Live = if runs then states.Running else states.Ready
-standing runs phases.AwaitsItem = states.Waiting
-standing runs (phases.AwaitsReply msg) = states.Waiting
-standing runs phases.Exited = states.Exited
-standing runs (phases.Faulted fault) = states.Faulted fault
+abbrev pub doing : Bool → Phase → ThreadState
+doing runs phases.Live = if runs then states.Running else states.Ready
+doing runs phases.AwaitsItem = states.Waiting
+doing runs (phases.AwaitsReply msg) = states.Waiting
+doing runs phases.Exited = states.Exited
+doing runs (phases.Faulted fault) = states.Faulted fault
 
 -- a thread runs
 abbrev pub runs_at : Plain → ThreadId → Bool
@@ -53,11 +53,11 @@ runs_at p id = is_the_one (cpu_at p id.cpu.0).running id.thread
 
 -- a thread stands so
 abbrev pub stands_thread : Plain → ThreadId → ClaimedState → Bool
-stands_thread p id wanted = option_map_or (λ (t : Thread). is_in_state wanted (standing (runs_at p id) t.phase)) (thread_at p id.cpu.0 id.thread) false
+stands_thread p id wanted = option_map_or (λ (t : Thread). is_in_state wanted (doing (runs_at p id) t.phase)) (thread_at p id.cpu.0 id.thread) false
 
 -- some thread was ended by the fault of this number
 abbrev pub ended_by : ℕ → Thread → Bool
-ended_by n t = has_faulted n (standing false t.phase)
+ended_by n t = has_faulted n (doing false t.phase)
 
 abbrev pub has_ended_by : ℕ → Processor → Bool
 has_ended_by n cpu = list_any (ended_by n) cpu.threads

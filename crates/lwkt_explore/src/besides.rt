@@ -1,9 +1,10 @@
 //! What is known of a script beside the outcomes of its orders.
 ghost use Rattle.std.specs.Prelude.{◌≡◌, IfErr, IfOk};
-ghost use Rattle.lwkt_explore.specs.Besides.{AreBeside, moment_truth};
+ghost use Rattle.lwkt_explore.specs.Besides.{AreBeside};
+ghost use Rattle.lwkt_explore.specs.Moments.{moment_truth};
 ghost use Rattle.lwkt_explore.specs.Outcomes.{RefusesSearch};
 
-use crate::moments::{Moment, moments};
+use crate::moments::{Moment, moments_over_orders};
 use crate::rounds::rounds_of;
 use crate::searches::Bounds;
 use crate::truths::Truth;
@@ -38,7 +39,7 @@ pub fn beside_of<W: Watch>(
     ensures refused { IfErr result (RefusesSearch script.now) }
 {
     let rounds = rounds_of(alloc, script, expectations)?;
-    let moments = moments(alloc, script, bounds, expectations, watch)?;
+    let moments = moments_over_orders(alloc, script, bounds, expectations, watch)?;
     Ok(Beside { rounds, moments })
 }
 

@@ -5,16 +5,14 @@ ghost use Rattle.lwkt_base.specs.Threads.{is_done};
 ghost use Rattle.lwkt_explore.specs.Claims.{is_in_state, is_place, has_faulted, agrees, agrees_call, fits, same_thread, has_entry, has_logged, is_full, has_full_log, has_state, any_faulted, any_logged, any_full, any_in_state, related, compared, lies, all_ended, logged_truth, shows, shown_truth, fact_truth, truth_by, truth_of};
 ghost use Rattle.lwkt_text.specs.ClaimTrees.{statement_of};
 
-use crate::readings::{reading, sum_of};
+use crate::readings::sum_of;
 use crate::sayables::Sayable;
 use crate::truths::{Truth, greater, known, lesser, opposite};
 use lwkt_base::blobs::same_bytes;
 use lwkt_base::limits::LOG_LIMIT;
 use lwkt_base::{Call, Entry, MsgId, MsgState, Owner, ThreadId, ThreadLine, ThreadState};
 use lwkt_report::Closing;
-use lwkt_text::claims::{
-    Claim, ClaimTree, ClaimedState, Fact, Pattern, Quantity, Relation, SaidCall,
-};
+use lwkt_text::claims::{Claim, ClaimTree, ClaimedState, Fact, Pattern, Relation, SaidCall};
 
 // Whether a thread stands so.
 pub(crate) fn is_in_state(wanted: ClaimedState, state: ThreadState) -> bool
@@ -312,17 +310,10 @@ fn fact_truth(outcome: &Closing, fact: &Fact) -> Truth
 impl Sayable for Closing {
     ghost use Rattle.std.specs.Prelude.{⊤};
     ghost use Rattle.lwkt_explore.specs.Claims.{fact_truth};
-    ghost use Rattle.lwkt_explore.specs.Readings.{reading};
 
-    ghost is_sound = { λ o. ⊤ };
-
-    ghost read_by = { reading };
+    ghost is_there = { λ o. ⊤ };
 
     ghost told_by = { fact_truth };
-
-    fn read(&self, quantity: Quantity) -> Option<u64> {
-        reading(self, quantity)
-    }
 
     fn told(&self, fact: &Fact) -> Truth {
         fact_truth(self, fact)
@@ -331,7 +322,7 @@ impl Sayable for Closing {
 
 /// Whether the claim of a tree is so of it.
 pub(crate) fn tree_truth<S: Sayable>(of: &S, tree: &ClaimTree) -> Truth
-    requires { S.is_sound of.now }
+    requires { S.is_there of.now }
     ensures { result ≡ truth_by (S.told_by of.now) (statement_of tree.now) }
 {
     match tree {

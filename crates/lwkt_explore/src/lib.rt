@@ -63,7 +63,7 @@ pub use laws::{outcomes_are_numbered, outcomes_are_written_once};
 pub use lines::{order_text, text_in, text_of};
 pub use losses::Lost;
 pub use lwkt_search::Seen;
-pub use moments::{Moment, moments};
+pub use moments::{Moment, moments_over_orders};
 pub use outcomes::{Kind, Outcome, Outcomes};
 pub use readings::reading;
 pub use round_moments::moments_in_rounds;

@@ -36,6 +36,7 @@ pub struct Moment {
 }
 
 // A claim on the states of a script.
+#[derive(Drop)]
 struct Stated<'a> {
     script: &'a Script,
     claim: &'a Claim,
@@ -170,7 +171,7 @@ pub(crate) fn asks_times(expectations: &[Expectation]) -> bool
 /// none. The search has these bounds, and makes each turn. Where memory is refused for it, nothing is decided.
 ///
 /// Refused as `explore` is.
-pub fn moments<W: Watch>(
+pub fn moments_over_orders<W: Watch>(
     alloc: Global,
     script: &Script,
     bounds: Bounds,

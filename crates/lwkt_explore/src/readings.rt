@@ -2,10 +2,23 @@
 ghost use Rattle.std.specs.Prelude.{◌≡◌};
 ghost use Rattle.lwkt_explore.specs.Readings.{shown_tally, reading, total_with, sum_of};
 
-use crate::sayables::Sayable;
+use crate::sayables::Readable;
 use lwkt_base::Cells;
 use lwkt_report::Closing;
 use lwkt_text::claims::Quantity;
+
+impl Readable for Closing {
+    ghost use Rattle.std.specs.Prelude.{⊤};
+    ghost use Rattle.lwkt_explore.specs.Readings.{reading};
+
+    ghost is_sound = { λ o. ⊤ };
+
+    ghost read_by = { reading };
+
+    fn read(&self, quantity: Quantity) -> Option<u64> {
+        reading(self, quantity)
+    }
+}
 
 // What a processor has added to a token, as its line shows it.
 fn shown_tally(tallies: &Option<Cells>, cpu: u8) -> Option<u64>
@@ -44,17 +57,17 @@ pub fn reading(outcome: &Closing, quantity: Quantity) -> Option<u64>
 }
 
 // A total with one more quantity.
-fn total_with<S: Sayable>(from: &S, total: u64, quantity: Quantity) -> Option<u64>
-    requires { S.is_sound from.now }
-    ensures { result ≡ total_with (S.read_by from.now) total quantity }
+fn total_with<R: Readable>(from: &R, total: u64, quantity: Quantity) -> Option<u64>
+    requires { R.is_sound from.now }
+    ensures { result ≡ total_with (R.read_by from.now) total quantity }
 {
     total.checked_add(from.read(quantity)?)
 }
 
 /// The sum of quantities, if all are there and 64 bits have room for it.
-pub(crate) fn sum_of<S: Sayable>(from: &S, quantities: &[Quantity]) -> Option<u64>
-    requires { S.is_sound from.now }
-    ensures { result ≡ sum_of (S.read_by from.now) quantities.now }
+pub(crate) fn sum_of<R: Readable>(from: &R, quantities: &[Quantity]) -> Option<u64>
+    requires { R.is_sound from.now }
+    ensures { result ≡ sum_of (R.read_by from.now) quantities.now }
 {
     let mut total = 0u64;
     for quantity in quantities {

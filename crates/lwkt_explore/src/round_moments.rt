@@ -37,7 +37,7 @@ fn most_turns(script: &Script) -> usize {
 }
 
 // The states of the run in rounds.
-fn walk(alloc: Global, script: &Script) -> Result<Walk, Refusal>
+fn walk_of(alloc: Global, script: &Script) -> Result<Walk, Refusal>
     requires sound { IsSound (opened script.now) }
     requires some { 0 < script.now.cpus }
     ensures store { IfOk result (λ w. IsStore w.store) }
@@ -178,7 +178,7 @@ fn moments_of(
     requires sound { IsSound (opened script.now) }
     requires some { 0 < script.now.cpus }
 {
-    let walk = walk(alloc, script)?;
+    let walk = walk_of(alloc, script)?;
     let mut moments = Vec::new(alloc);
     for expectation in expectations {
         let moment = walk.moment(alloc, script, expectation)?;

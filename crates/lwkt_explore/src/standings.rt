@@ -6,12 +6,12 @@ ghost use Rattle.lwkt_base.specs.Holding.{is_held, is_exclusive};
 ghost use Rattle.lwkt_plain.specs.Openings.{opened};
 ghost use Rattle.lwkt_plain.specs.Places.{thread_at};
 ghost use Rattle.lwkt_plain.specs.Stores.{kept, state_of, IsStore};
-ghost use Rattle.lwkt_explore.specs.Standings.{is_the_one, standing, runs_at, stands_thread, ended_by, has_ended_by, all_over, is_held_so, same_place, reading_at, fact_at, truth_at, is_so_at};
+ghost use Rattle.lwkt_explore.specs.Standings.{is_the_one, doing, runs_at, stands_thread, ended_by, has_ended_by, all_over, is_held_so, same_place, reading_at, fact_at, truth_at, is_so_at};
 
 use crate::claims::{compared, has_faulted, is_in_state, tree_truth};
 use crate::explorers::Explorer;
 use crate::readings::sum_of;
-use crate::sayables::Sayable;
+use crate::sayables::{Readable, Sayable};
 use crate::truths::{Truth, known};
 use lwkt_base::{MsgId, MsgState, ThreadId, ThreadState, TokId};
 use lwkt_core::Token;
@@ -20,8 +20,8 @@ use lwkt_script::Script;
 use lwkt_text::claims::{Claim, ClaimedState, Fact, Holding, Quantity};
 
 // How a thread of a phase stands, if it runs or not.
-fn standing(runs: bool, phase: Phase) -> ThreadState
-    ensures { result ≡ standing runs phase }
+fn doing_of(runs: bool, phase: Phase) -> ThreadState
+    ensures { result ≡ doing runs phase }
 {
     match phase {
         Phase::Live if runs => ThreadState::Running,
@@ -46,7 +46,7 @@ fn is_the_one(running: Option<usize>, k: usize) -> bool
 fn ended_by(n: u8, thread: &Thread) -> bool
     ensures { result ≡ ended_by n thread.now }
 {
-    has_faulted(n, standing(false, thread.phase))
+    has_faulted(n, doing_of(false, thread.phase))
 }
 
 // Whether some thread of a processor was.
@@ -141,7 +141,7 @@ impl<'a> Standing<'a> {
     {
         let runs = self.runs(id);
         match self.thread(id) {
-            Some(thread) => is_in_state(wanted, standing(runs, thread.phase)),
+            Some(thread) => is_in_state(wanted, doing_of(runs, thread.phase)),
             None => false,
         }
     }
@@ -208,12 +208,10 @@ impl<'a> Standing<'a> {
     }
 }
 
-impl<'a> Sayable for Standing<'a> {
+impl<'a> Readable for Standing<'a> {
     ghost is_sound = { λ s. (IsStore s.store.now) × (s.at < length (kept s.store.now)) };
 
     ghost read_by = { λ s. reading_at (state_of s.store.now s.at) };
-
-    ghost told_by = { λ s. fact_at s.script.now (state_of s.store.now s.at) };
 
     fn read(&self, quantity: Quantity) -> Option<u64> {
         match quantity {
@@ -240,6 +238,12 @@ impl<'a> Sayable for Standing<'a> {
             }
         }
     }
+}
+
+impl<'a> Sayable for Standing<'a> {
+    ghost is_there = { λ s. (IsStore s.store.now) × (s.at < length (kept s.store.now)) };
+
+    ghost told_by = { λ s. fact_at s.script.now (state_of s.store.now s.at) };
 
     fn told(&self, fact: &Fact) -> Truth {
         match fact {

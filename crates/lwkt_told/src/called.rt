@@ -2,7 +2,7 @@ ghost use Rattle.std.specs.Prelude.{◌≡◌, ◌++◌, OnOk, replicate, slice_
 ghost use Rattle.std.specs.Option.{option_copied};
 ghost use Rattle.lwkt_report.specs.Report.{numbered_lines};
 ghost use Rattle.lwkt_told.specs.Called.{called, cell_called, is_thread, place_of, program_of, thread_number, thread_name, thread_called, variable_of, variable_called, comma, mode_told, ref_part, longest, width_of};
-ghost use Rattle.lwkt_text.specs.Naming.{cells_of};
+ghost use Rattle.lwkt_text.specs.Naming.{cells_of, variables_of};
 
 use lwkt_base::memory::{Piece, push_str, put};
 use lwkt_base::{Mode, OutOfMemory, Ref, ThreadId, TokId};
