@@ -10,6 +10,7 @@ pub mod Moments
 pub mod Orders
 pub mod Outcomes
 pub mod Readings
+pub mod RoundMoments
 pub mod Rounds
 pub mod Searches
 pub mod Standings
