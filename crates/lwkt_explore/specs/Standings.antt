@@ -81,6 +81,10 @@ same_place places.With places.With = true
 same_place places.Back places.Back = true
 same_place _ _ = false
 
+-- a message is there
+abbrev pub is_at : MsgState → Letter → Bool
+is_at place l = same_place place l.word.state
+
 -- a number of a state, if it is there
 abbrev pub reading_at : Plain → Quantity → Option ℕ
 reading_at p (quantities.Number n) = Some n
@@ -98,7 +102,7 @@ fact_at script p (facts.Faulted n) = known (list_any (has_ended_by n) p.cpus)
 fact_at script p (facts.Logged id pattern) = Open
 fact_at script p (facts.Unlogged pattern) = Open
 fact_at script p (facts.InState id wanted) = known (stands_thread p id wanted)
-fact_at script p (facts.Lies msg place) = known (option_map_or (λ (l : Letter). same_place place l.word.state) (slice_get p.letters msg.0) false)
+fact_at script p (facts.Lies msg place) = known (option_map_or (is_at place) (slice_get p.letters msg.0) false)
 fact_at script p (facts.Stands tok holding) = known (option_map_or (λ (t : Token). is_held_so p t holding) (slice_get p.tokens tok.0) false)
 fact_at script p (facts.Compares c) = known (compared c.relation (sum_of (reading_at p) c.left) (sum_of (reading_at p) c.right))
 

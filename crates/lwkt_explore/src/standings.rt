@@ -6,7 +6,7 @@ ghost use Rattle.lwkt_base.specs.Holding.{is_held, is_exclusive};
 ghost use Rattle.lwkt_plain.specs.Openings.{opened};
 ghost use Rattle.lwkt_plain.specs.Places.{thread_at};
 ghost use Rattle.lwkt_plain.specs.Stores.{kept, state_of, IsStore};
-ghost use Rattle.lwkt_explore.specs.Standings.{is_the_one, doing, runs_at, stands_thread, ended_by, has_ended_by, all_over, is_held_so, same_place, reading_at, fact_at, truth_at, is_so_at};
+ghost use Rattle.lwkt_explore.specs.Standings.{is_the_one, doing, runs_at, stands_thread, ended_by, has_ended_by, all_over, is_held_so, same_place, is_at, reading_at, fact_at, truth_at, is_so_at};
 
 use crate::claims::{compared, has_faulted, is_in_state, tree_truth};
 use crate::explorers::Explorer;
@@ -15,7 +15,7 @@ use crate::sayables::{Readable, Sayable};
 use crate::truths::{Truth, known};
 use lwkt_base::{MsgId, MsgState, ThreadId, ThreadState, TokId};
 use lwkt_core::Token;
-use lwkt_plain::{Phase, Processor, Store, Thread};
+use lwkt_plain::{Letter, Phase, Processor, Store, Thread};
 use lwkt_script::Script;
 use lwkt_text::claims::{Claim, ClaimedState, Fact, Holding, Quantity};
 
@@ -84,6 +84,13 @@ fn same_place(wanted: MsgState, place: MsgState) -> bool
             | (MsgState::With, MsgState::With)
             | (MsgState::Back, MsgState::Back)
     )
+}
+
+// Whether a message is there.
+fn is_at(place: MsgState, letter: &Letter) -> bool
+    ensures { result ≡ is_at place letter.now }
+{
+    same_place(place, letter.word.state)
 }
 
 /// The state of a number, of which claims are said.
@@ -190,10 +197,10 @@ impl<'a> Standing<'a> {
     fn lies(&self, msg: MsgId, place: MsgState) -> bool
         requires store { IsStore self.now.store.now }
         requires there { self.now.at < length (kept self.now.store.now) }
-        ensures { result ≡ option_map_or (λ l. same_place place l.word.state) (slice_get (state_of self.now.store.now self.now.at).letters msg.0) false }
+        ensures { result ≡ option_map_or (is_at place) (slice_get (state_of self.now.store.now self.now.at).letters msg.0) false }
     {
         match self.store.letter(self.at, usize::from(msg.0)) {
-            Some(letter) => same_place(place, letter.word.state),
+            Some(letter) => is_at(place, letter),
             None => false,
         }
     }
