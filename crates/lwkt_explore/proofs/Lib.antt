@@ -4,6 +4,7 @@ pub mod KindLemmas
 pub mod LawLemmas
 pub mod RefusalLemmas
 pub mod SettledLemmas
+pub mod StandingLemmas
 pub mod StrayLemmas
 pub mod TextLemmas
 pub mod ToldLemmas
